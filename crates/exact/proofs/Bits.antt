@@ -1,0 +1,90 @@
+-- What code computes at `i64`: a number x, perhaps read back from its bits, is the number z, within N.
+use mathlib.Core.Path.{_≡_, refl, sym, _∙_, ap, subst}
+use mathlib.Core.Bool.{Bool, true, false, not}
+use Prim.Native.Nat.{ℕ, zero, suc, _+_, _*_, _/_, _%_, _^_, _<_, _≤_}
+use native.Mathlib.Nat.{div-le-self, mod-le}
+use native.Mathlib.Omega.{arith}
+use lib.Dec.{T, ltb, leb}
+use lib.IntN.{ℤ, pos, negsuc, negℤ, _+ℤ_, _-ℤ_, _*ℤ_}
+use lib.Signed.{ltZ, leZ, mag, quotZ, remZ}
+use mir.Syntax.{w64}
+use mir.Val.{SFits, toZ, ofZ}
+use mir.Facts.{toZ-ofZ}
+use Rattle.exact.specs.Whole.{over, under, minℤ, maxℤ, eqZ, Within}
+use Rattle.exact.proofs.Parts.{arithℤ, min-parts, max-parts, apart, true-eqZ, false-eqZ}
+use Rattle.exact.proofs.Range.{within-add, within-less, within-mul, within-neg, within-fits, within-more}
+
+-- x as a local holds it: its bits, read back
+abbrev pub held : ℤ → ℤ
+held z = toZ w64 (ofZ w64 z)
+
+pub record Is (N : ℕ) (x z : ℤ) : Type 0 where
+  pub same : x ≡ z
+  pub range : Within N z
+
+pub plain : {N : ℕ} {z : ℤ} → Within N z → Is N z z
+plain w = record { same = refl; range = w }
+
+pub fits : {N : ℕ} {x z : ℤ} → T (ltb N (2 ^ 63)) → Is N x z → SFits w64 x
+fits {N} t h = within-fits {N = N} t (rw (h .same) (h .range))
+
+pub back : {N : ℕ} {x z : ℤ} → T (ltb N (2 ^ 63)) → Is N x z → Is N (held x) z
+back t h = record { same = toZ-ofZ (fits t h) ∙ h .same; range = h .range }
+
+pub leaf : {N : ℕ} {z : ℤ} → T (ltb N (2 ^ 63)) → Within N z → Is N (held z) z
+leaf t w = back t (plain w)
+
+pub is-add : {A B : ℕ} {x y a b : ℤ} → Is A x a → Is B y b → Is (A + B) (x +ℤ y) (a +ℤ b)
+is-add f g = record { same = λ i. f .same i +ℤ g .same i; range = within-add (f .range) (g .range) }
+
+pub is-less : {A B : ℕ} {x y a b : ℤ} → Is A x a → Is B y b → Is (A + B) (x -ℤ y) (a -ℤ b)
+is-less f g = record { same = λ i. f .same i -ℤ g .same i; range = within-less (f .range) (g .range) }
+
+pub is-mul : {A B : ℕ} {x y a b : ℤ} → Is A x a → Is B y b → Is (A * B) (x *ℤ y) (a *ℤ b)
+is-mul f g = record { same = λ i. f .same i *ℤ g .same i; range = within-mul (f .range) (g .range) }
+
+-- what a function that computes x returns
+pub gives : {N : ℕ} {x z : ℤ} → T (ltb N (2 ^ 63)) → Is N x z → held x ≡ z
+gives t h = back t h .same
+
+-- ---- tests of two numbers, each read back from its bits
+module _ (a b : ℤ) (fa : mag a < 2 ^ 63) (fb : mag b < 2 ^ 63) where
+  held-a : held a ≡ a
+  held-a = toZ-ofZ {w = w64} {z = a} (record { sfits = fa })
+
+  held-b : held b ≡ b
+  held-b = toZ-ofZ {w = w64} {z = b} (record { sfits = fb })
+
+  pub lt-held : ltZ (held a) (held b) ≡ ltZ a b
+  lt-held = λ i. ltZ (held-a i) (held-b i)
+
+  pub le-held : leZ (held a) (held b) ≡ leZ a b
+  le-held = λ i. leZ (held-a i) (held-b i)
+
+  pub eq-held : ofZ w64 a ≡ ofZ w64 b → eqZ a b ≡ true
+  eq-held e = true-eqZ a b (sym held-a ∙ ap (toZ w64) e ∙ held-b)
+
+  pub ne-held : (ofZ w64 a ≡ ofZ w64 b → ⊥) → eqZ a b ≡ false
+  ne-held n = false-eqZ a b (λ e. n (ap (ofZ w64) e))
+
+  module _ (t : Bool) (e : ltZ (held a) (held b) ≡ t) where
+    pub lt-is : ltZ a b ≡ t
+    lt-is = sym lt-held ∙ e
+
+  pub min-yes : ltZ (held a) (held b) ≡ true → a ≡ minℤ a b
+  min-yes e = let h = lt-is true e in omega (arithℤ, min-parts a b)
+
+  pub min-no : ltZ (held a) (held b) ≡ false → b ≡ minℤ a b
+  min-no e = let h = lt-is false e in omega (arithℤ, min-parts a b)
+
+  pub max-yes : ltZ (held a) (held b) ≡ true → b ≡ maxℤ a b
+  max-yes e = let h = lt-is true e in omega (arithℤ, max-parts a b)
+
+  pub max-no : ltZ (held a) (held b) ≡ false → a ≡ maxℤ a b
+  max-no e = let h = lt-is false e in omega (arithℤ, max-parts a b)
+
+-- ---- a quotient and a remainder of what is not negative
+pub quot-over : (a b : ℤ) → ltZ a (pos 0) ≡ false → ltZ b (pos 0) ≡ false → quotZ a b ≡ pos (over a / over b)
+quot-over (pos m) (pos n) h k = refl
+quot-over (pos m) (negsuc n) h k = absurd (let z : _≡_ {A = ℕ} 0 1 = cc in omega arith)
+quot-over (negsuc m) b h k = absurd (let z : _≡_ {A = ℕ} 0 1 = cc in omega arith)

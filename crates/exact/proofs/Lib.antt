@@ -1,0 +1,6 @@
+pub mod Parts
+pub mod Ring
+pub mod Order
+pub mod Range
+pub mod Bits
+pub mod Sums

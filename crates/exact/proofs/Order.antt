@@ -1,0 +1,46 @@
+-- Places and distances: x is a and the steps from a up to x.
+use mathlib.Core.Path.{_≡_, refl, sym, _∙_, ap}
+use mathlib.Core.Bool.{Bool, true, false}
+use Prim.Native.Nat.{ℕ, zero, suc, _+_, _-_, _<_, _≤_}
+use native.Mathlib.Omega.{arith}
+use lib.IntN.{ℤ, pos, negℤ, _+ℤ_, _-ℤ_, +ℤ-assoc}
+use lib.Signed.{_≤ℤ_, _<ℤ_, leZ, ltZ}
+use Rattle.exact.specs.Whole.{over, under, minℤ, maxℤ, span}
+use Rattle.exact.proofs.Parts.{arithℤ, add-parts, less-parts, apart, span-parts, min-parts, max-parts}
+
+-- ---- from a up to b, where b is not below a
+
+pub span-back : (a b : ℤ) → ltZ b a ≡ false → b ≡ a +ℤ pos (span a b)
+span-back a b h = omega (arithℤ, add-parts a (pos (span a b)), span-parts a b)
+
+pub span-of : (a : ℤ) (d : ℕ) → span a (a +ℤ pos d) ≡ d
+span-of a d = omega (arith, span-parts a (a +ℤ pos d), add-parts a (pos d))
+
+pub span-none : (a b : ℤ) → ltZ a b ≡ false → span a b ≡ 0
+span-none a b h = omega (arithℤ, span-parts a b)
+
+pub span-some : (a b : ℤ) → ltZ a b ≡ true → 0 < span a b
+span-some a b h = omega (arithℤ, span-parts a b)
+
+pub span-gap : (a b : ℤ) → ltZ b a ≡ false → b -ℤ a ≡ pos (span a b)
+span-gap a b h = omega (arithℤ, less-parts b a, span-parts a b)
+
+pub lt-flip : (a b : ℤ) → ltZ a b ≡ true → ltZ b a ≡ false
+lt-flip a b h = omega arithℤ
+
+pub step-step : (a : ℤ) (i d : ℕ) → (a +ℤ pos i) +ℤ pos d ≡ a +ℤ pos (i + d)
+step-step a i d = +ℤ-assoc a (pos i) (pos d)
+
+-- ---- the lesser and the greater, where the order is known
+
+pub min-of : (a b : ℤ) → ltZ a b ≡ true → minℤ a b ≡ a
+min-of a b h = omega (arithℤ, min-parts a b)
+
+pub min-of′ : (a b : ℤ) → ltZ a b ≡ false → minℤ a b ≡ b
+min-of′ a b h = omega (arithℤ, min-parts a b)
+
+pub max-of : (a b : ℤ) → ltZ a b ≡ true → maxℤ a b ≡ b
+max-of a b h = omega (arithℤ, max-parts a b)
+
+pub max-of′ : (a b : ℤ) → ltZ a b ≡ false → maxℤ a b ≡ a
+max-of′ a b h = omega (arithℤ, max-parts a b)

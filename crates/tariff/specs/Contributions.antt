@@ -1,0 +1,90 @@
+-- "Contributions (25.3.1, 25.3.4)": energy by its lower or upper branch, reserves, regulation, movement.
+use mathlib.Core.Bool.{Bool, true, false, _&&_, _||_}
+use Prim.Native.Nat.{ℕ}
+use lib.IntN.{ℤ, pos, _+ℤ_, _-ℤ_, _*ℤ_}
+use lib.Signed.{ltZ, leZ}
+use Rattle.exact.specs.Choice.{if_then_else_}
+use Rattle.exact.specs.Whole.{minℤ, maxℤ, eqZ}
+use Rattle.tariff.specs.declared.Curve.{Curve}
+use Rattle.tariff.specs.declared.DayAhead.{DayAhead}
+use Rattle.tariff.specs.declared.Interval.{Interval}
+use Rattle.tariff.specs.Units.{grainsOf, movedGrains}
+use Rattle.tariff.specs.Curve.{Amount, known, none, change, integral}
+use Rattle.tariff.specs.Derate.{reduced}
+
+-- ---- energy: D, R, E and A are day-ahead energy, real-time energy, `eop` and `ae`
+
+-- A is capped at R + `co` when R > 0
+abbrev pub capped : (R A co : ℤ) → ℤ
+capped R A co = if ltZ (pos 0) R then minℤ A (R +ℤ co) else A
+
+-- D > 0 and R < D, or D < 0 and R > D
+abbrev pub isLower : (D R : ℤ) → Bool
+isLower D R = (ltZ (pos 0) D && ltZ R D) || (ltZ D (pos 0) && ltZ D R)
+
+unfoldable pub lowerLimit : (D R E A : ℤ) → ℤ
+lowerLimit D R E A =
+    if ltZ (pos 0) D
+    then
+      (if ltZ R E
+      then maxℤ (minℤ (maxℤ R (minℤ A E)) D) (pos 0)
+      else maxℤ (minℤ (minℤ R (maxℤ A E)) D) (pos 0))
+    else minℤ (minℤ (maxℤ (maxℤ D A) E) R) (pos 0)
+
+-- D > 0, or D = 0 and R > 0; D < 0, or D = 0 and R < 0
+abbrev pub isInject : (D R : ℤ) → Bool
+isInject D R = ltZ (pos 0) D || (eqZ D (pos 0) && ltZ (pos 0) R)
+
+abbrev pub isWithdraw : (D R : ℤ) → Bool
+isWithdraw D R = ltZ D (pos 0) || (eqZ D (pos 0) && ltZ R (pos 0))
+
+unfoldable pub upperLimit : (D R E A : ℤ) → ℤ
+upperLimit D R E A =
+    if isInject D R
+    then (if leZ E R && leZ D E then minℤ R (maxℤ A E) else maxℤ R (minℤ A E))
+    else (if isWithdraw D R then minℤ R (maxℤ A E) else pos 0)
+
+-- the limit of the branch that is taken
+abbrev pub limitOf : (D R E A : ℤ) → ℤ
+limitOf D R E A = if isLower D R then lowerLimit D R E A else upperLimit D R E A
+
+abbrev pub lowerGrains : (D LL pen s : ℤ) → ℤ → ℤ
+lowerGrains D LL pen s cost = ((D -ℤ LL) *ℤ pen -ℤ cost) *ℤ s
+
+abbrev pub upperGrains : (D UL pen s : ℤ) → ℤ → ℤ
+upperGrains D UL pen s cost = minℤ (((D -ℤ UL) *ℤ pen +ℤ cost) *ℤ s) (pos 0)
+
+-- none where a kilowatt to be priced has no price
+unfoldable pub energy : (da rt : Curve) → (D R E A pen s : ℤ) → Amount
+energy da rt D R E A pen s =
+    if isLower D R
+    then change (lowerGrains D (lowerLimit D R E A) pen s) (integral da (lowerLimit D R E A) D)
+    else change (upperGrains D (upperLimit D R E A) pen s) (integral rt D (upperLimit D R E A))
+
+-- ---- reserves, regulation and movement: d and r are the day-ahead and the real-time schedule
+
+unfoldable pub reserve : (d r price bid s : ℤ) → ℤ
+reserve d r price bid s = if ltZ r d then grainsOf (d -ℤ r) (price -ℤ bid) s else grainsOf (d -ℤ r) price s
+
+unfoldable pub regulation : (d r price bid liveBid s : ℤ) → ℤ
+regulation d r price bid liveBid s =
+    if ltZ r d then grainsOf (d -ℤ r) (price -ℤ bid) s else grainsOf (d -ℤ r) (maxℤ (price -ℤ liveBid) (pos 0)) s
+
+unfoldable pub movement : (mv pmv bmv : ℤ) → ℤ
+movement mv pmv bmv = movedGrains mv (maxℤ (pmv -ℤ bmv) (pos 0))
+
+-- ---- an interval: the schedules are the reduced ones, the bids those of line 1
+
+abbrev pub cappedOf : Interval → ℤ
+cappedOf v = capped (v .en .0) (v .ae .0) (v .co .0)
+
+abbrev pub energyOf : Curve → Curve → DayAhead → Interval → Amount
+energyOf da rt a v = energy da rt (reduced a v 0) (v .en .0) (v .eop .0) (cappedOf v) (v .pen .0) (v .s .0)
+
+unfoldable pub otherThanEnergy : DayAhead → Interval → ℤ
+otherThanEnergy a v =
+    regulation (reduced a v 1) (v .reg .0) (v .preg .0) (a .breg .0) (v .breg .0) (v .s .0)
+    +ℤ reserve (reduced a v 2) (v .r1 .0) (v .p1 .0) (a .b1 .0) (v .s .0)
+    +ℤ reserve (reduced a v 3) (v .r2 .0) (v .p2 .0) (a .b2 .0) (v .s .0)
+    +ℤ reserve (reduced a v 4) (v .r3 .0) (v .p3 .0) (a .b3 .0) (v .s .0)
+    -ℤ movement (v .mv .0) (v .pmv .0) (v .bmv .0)

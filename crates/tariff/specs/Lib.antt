@@ -1,0 +1,9 @@
+-- Document 01 as definitions, a file for each of its sections, in its order.
+pub mod Units
+pub mod Sheet
+pub mod Curve
+pub mod Reply
+pub mod Eligible
+pub mod Derate
+pub mod Contributions
+pub mod Hour

@@ -1,0 +1,121 @@
+// The words of the settlement: units, curves, an hour's record, and what a call gives back. The rules themselves stand in
+// specs/, a file for each section of document 01.
+
+// Power in whole kilowatts. Withdrawal is negative.
+pub struct Kw(pub i64);
+
+// Cents per MWh.
+pub struct Price(pub i64);
+
+// Cents per MW, the price of regulation movement.
+pub struct MovePrice(pub i64);
+
+pub struct Seconds(pub i64);
+
+// 1/3,600,000 cent: one kilowatt at one cent per MWh for one second.
+pub struct Grains(pub i64);
+
+pub struct Cents(pub i64);
+
+// A bid curve: from `start` on, `n` steps, each up to its end `to` at its price `at`.
+pub struct Curve {
+    pub start: Kw,
+    pub n: usize,
+    pub to: [Kw; 12],
+    pub at: [Price; 12],
+}
+
+// The upper operating limit of a derated unit; `uol=-` on the sheet means no derate.
+pub enum Uol {
+    Missing,
+    At(Kw),
+}
+
+// Line 1 of a block: day-ahead schedules, and the bids of the last four.
+pub struct DayAhead {
+    pub en: Kw,
+    pub reg: Kw,
+    pub r1: Kw,
+    pub r2: Kw,
+    pub r3: Kw,
+    pub breg: Price,
+    pub b1: Price,
+    pub b2: Price,
+    pub b3: Price,
+}
+
+// An interval line.
+pub struct Interval {
+    pub s: Seconds,
+    pub en: Kw,
+    pub ae: Kw,
+    pub co: Kw,
+    pub eop: Kw,
+    pub pen: Price,
+    pub lim: Kw,
+    pub uol: Uol,
+    pub r1: Kw,
+    pub r2: Kw,
+    pub r3: Kw,
+    pub p1: Price,
+    pub p2: Price,
+    pub p3: Price,
+    pub reg: Kw,
+    pub preg: Price,
+    pub breg: Price,
+    pub mv: Kw,
+    pub pmv: MovePrice,
+    pub bmv: MovePrice,
+}
+
+// The record of an hour block, with whatever numbers its block had: `n` intervals, the first of `iv`.
+pub struct Hour {
+    pub hour: i64,
+    pub ahead: DayAhead,
+    pub da: Curve,
+    pub rt: Curve,
+    pub n: usize,
+    pub iv: [Interval; 30],
+}
+
+// A day's marks: a digit of `cat` for each hour, and the exceptions 25.2.2.1 to 25.2.2.6 as words, hour 0 the lowest bit.
+pub struct Marks {
+    pub rtc: bool,
+    pub cat: [u8; 24],
+    pub x1: u32,
+    pub x2: u32,
+    pub x3: u32,
+    pub x4: u32,
+    pub x5: u32,
+    pub x6: u32,
+}
+
+// The hour that a block has to say: its place in a day, or any.
+pub enum Expected {
+    Any,
+    Says(i64),
+}
+
+// The check that refuses, and its place: a line of the block, or an interval from 1. Three have one place only.
+pub enum Check {
+    Form(usize),
+    Range(usize),
+    Order,
+    Curve(usize),
+    Seconds,
+    Derate(usize),
+    Reach(usize),
+    Room,
+}
+
+// What a call gives back.
+pub enum Answer {
+    Paid(Grains, Cents),
+    Refused(Check),
+}
+
+// What one check finds.
+pub enum Found {
+    Nothing,
+    Fault(Check),
+}
