@@ -7,3 +7,4 @@ pub mod Eligible
 pub mod Derate
 pub mod Contributions
 pub mod Hour
+pub mod Demand
