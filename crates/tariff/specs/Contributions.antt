@@ -26,9 +26,9 @@ unfoldable pub lowerLimit : (D R E A : ℤ) → ℤ
 lowerLimit D R E A =
     if ltZ (pos 0) D
     then
-      (if ltZ R E
-      then maxℤ (minℤ (maxℤ R (minℤ A E)) D) (pos 0)
-      else maxℤ (minℤ (minℤ R (maxℤ A E)) D) (pos 0))
+    (if ltZ R E
+    then maxℤ (minℤ (maxℤ R (minℤ A E)) D) (pos 0)
+    else maxℤ (minℤ (minℤ R (maxℤ A E)) D) (pos 0))
     else minℤ (minℤ (maxℤ (maxℤ D A) E) R) (pos 0)
 
 -- D > 0, or D = 0 and R > 0; D < 0, or D = 0 and R < 0

@@ -89,9 +89,9 @@ outcome h v =
     if lags v
     then gives (pos 0)
     else
-      (if isDerated (h .ahead) v
-      then derated
-      else withOthers (otherThanEnergy (h .ahead) v) (energyOf (h .da) (h .rt) (h .ahead) v))
+    (if isDerated (h .ahead) v
+    then derated
+    else withOthers (otherThanEnergy (h .ahead) v) (energyOf (h .da) (h .rt) (h .ahead) v))
 
 -- an excluded hour's intervals contribute nothing and ask nothing
 unfoldable pub outcomeAt : Hour → Bool → ℕ → Outcome

@@ -16,30 +16,30 @@ use Rattle.tariff.specs.Units.{kw, price}
 
 -- ---- ranges, both ends included
 
-abbrev pub from_to_ : ℤ → ℤ → ℤ → Bool
-from_to_ low high z = leZ low z && leZ z high
+abbrev pub liesIn : ℤ → ℤ → ℤ → Bool
+liesIn low high z = leZ low z && leZ z high
 
 abbrev pub isSeconds : ℤ → Bool
-isSeconds = from_to_ (pos 1) (pos 900)
+isSeconds = liesIn (pos 1) (pos 900)
 
 abbrev pub isHour : ℤ → Bool
-isHour = from_to_ (pos 0) (pos 23)
+isHour = liesIn (pos 0) (pos 23)
 
 -- energy, `ae`, `eop`, `lim` and curve points
 abbrev pub isPower : ℤ → Bool
-isPower = from_to_ (negℤ (pos 2000000)) (pos 2000000)
+isPower = liesIn (negℤ (pos 2000000)) (pos 2000000)
 
 -- reserves, regulation, `co`, `mv` and `uol`
 abbrev pub isCapacity : ℤ → Bool
-isCapacity = from_to_ (pos 0) (pos 2000000)
+isCapacity = liesIn (pos 0) (pos 2000000)
 
 -- reserve and regulation bids, `pmv` and `bmv`
 abbrev pub isBid : ℤ → Bool
-isBid = from_to_ (pos 0) (pos 1000000)
+isBid = liesIn (pos 0) (pos 1000000)
 
 -- all other prices
 abbrev pub isPrice : ℤ → Bool
-isPrice = from_to_ (negℤ (pos 1000000)) (pos 1000000)
+isPrice = liesIn (negℤ (pos 1000000)) (pos 1000000)
 
 -- ---- the steps of a curve
 
