@@ -106,8 +106,8 @@ gap-up c a b h m =
       missing = ap (quote c) (between-at a b (m .kilowatt) h (m .needed)) ∙ m .missing;
     }
 
-flip : (c : Curve) (a b : ℤ) → Missing c a b → Missing c b a
-flip c a b m = record { kilowatt = m .kilowatt; needed = between-flip a b (m .kilowatt) (m .needed); missing = m .missing }
+pub missing-flip : (c : Curve) (a b : ℤ) → Missing c a b → Missing c b a
+missing-flip c a b m = record { kilowatt = m .kilowatt; needed = between-flip a b (m .kilowatt) (m .needed); missing = m .missing }
 
 gap-missing : (c : Curve) (a b : ℤ) → Gap (quote c) a (span a b) → Missing c a b
 gap-missing c a b gap = record { kilowatt = a +ℤ pos (gap .at); needed = between-up a b (gap .at) (gap .below); missing = gap .missing }
@@ -118,7 +118,7 @@ missing-none c a b m =
     by-test (leZ a b)
     (λ t. (if t then sumUp (quote c) a (span a b) else change negℤ (sumUp (quote c) b (span b a))) ≡ none)
     (λ e. sum-up-none (quote c) a (span a b) (gap-up c a b e m))
-    (λ e. rw (sum-up-none (quote c) b (span b a) (gap-up c b a (omega arithℤ) (flip c a b m))))
+    (λ e. rw (sum-up-none (quote c) b (span b a) (gap-up c b a (omega arithℤ) (missing-flip c a b m))))
 
 pub none-missing : (c : Curve) (a b : ℤ) → integral c a b ≡ none → Missing c a b
 unfolding integral
@@ -126,4 +126,4 @@ none-missing c a b =
     by-test (leZ a b)
     (λ t. (if t then sumUp (quote c) a (span a b) else change negℤ (sumUp (quote c) b (span b a))) ≡ none → Missing c a b)
     (λ e q. gap-missing c a b (none-sum-up (quote c) a (span a b) q))
-    (λ e q. flip c b a (gap-missing c b a (none-sum-up (quote c) b (span b a) (change-none negℤ (sumUp (quote c) b (span b a)) q))))
+    (λ e q. missing-flip c b a (gap-missing c b a (none-sum-up (quote c) b (span b a) (change-none negℤ (sumUp (quote c) b (span b a)) q))))
