@@ -3,3 +3,7 @@ pub mod Curves
 pub mod Needed
 pub mod Replies
 pub mod Reach
+pub mod Rows
+pub mod Answers
+pub mod Steps
+pub mod Demands
