@@ -1,13 +1,13 @@
 -- Laws of a curve by kilowatt: an integral reads the prices of the kilowatts between its ends, and has an amount when each has a price.
-use mathlib.Core.Path.{_≡_, refl, sym, _∙_, ap}
-use mathlib.Core.Bool.{Bool, true, false}
-use Prim.Native.Nat.{ℕ, zero, suc, _+_, _-_, _<_, _≤_}
+use mathlib.Core.Path.{_≡_, refl, _∙_, ap}
+use mathlib.Core.Bool.{true}
+use Prim.Native.Nat.{ℕ, zero, suc, _<_}
 use native.Mathlib.Decide.{decLt}
 use native.Mathlib.Omega.{arith}
 use lib.IntN.{ℤ, pos, negℤ, _+ℤ_}
-use lib.Signed.{ltZ, leZ, _≤ℤ_, _<ℤ_}
+use lib.Signed.{leZ}
 use Rattle.exact.specs.Choice.{if_then_else_}
-use Rattle.exact.specs.Whole.{over, under, minℤ, maxℤ, span}
+use Rattle.exact.specs.Whole.{span}
 use Rattle.exact.proofs.Parts.{arithℤ, add-parts, min-parts, max-parts, span-parts, by-test}
 use Rattle.tariff.specs.declared.Curve.{Curve}
 use Rattle.tariff.specs.Curve.{Amount, known, none, quote, plus, change, sumUp, integral}
@@ -81,24 +81,20 @@ between-at a b k h w = omega (arithℤ, add-parts a (pos (span a k)), span-parts
 
 -- ---- the integral
 
+sum-between : (c d : Curve) (a b : ℤ) → ((k : ℤ) → Between a b k → quote c k ≡ quote d k) → sumUp (quote c) a (span a b) ≡ sumUp (quote d) a (span a b)
+sum-between c d a b h = sum-up-same (quote c) (quote d) a (span a b) (λ i u. h (a +ℤ pos i) (between-up a b i u))
+
 pub integral-same : (c d : Curve) (a b : ℤ) → ((k : ℤ) → Between a b k → quote c k ≡ quote d k) → integral c a b ≡ integral d a b
 unfolding integral
-integral-same c d a b h =
-    let up : sumUp (quote c) a (span a b) ≡ sumUp (quote d) a (span a b) =
-    sum-up-same (quote c) (quote d) a (span a b) (λ i u. h (a +ℤ pos i) (between-up a b i u))
-    in
-    let down : sumUp (quote c) b (span b a) ≡ sumUp (quote d) b (span b a) =
-    sum-up-same (quote c) (quote d) b (span b a) (λ i u. h (b +ℤ pos i) (between-flip b a (b +ℤ pos i) (between-up b a i u)))
-    in
-    rw (up, down)
+integral-same c d a b h = rw (sum-between c d a b h, sum-between c d b a (λ k w. h k (between-flip b a k w)))
 
 -- a kilowatt between a and b that has no price
-pub record Missing (c : Curve) (a b : ℤ) : Type 0 where
+pub record Unquoted (c : Curve) (a b : ℤ) : Type 0 where
   pub kilowatt : ℤ
   pub needed : Between a b kilowatt
   pub missing : quote c kilowatt ≡ none
 
-gap-up : (c : Curve) (a b : ℤ) → leZ a b ≡ true → Missing c a b → Gap (quote c) a (span a b)
+gap-up : (c : Curve) (a b : ℤ) → leZ a b ≡ true → Unquoted c a b → Gap (quote c) a (span a b)
 gap-up c a b h m =
     record {
       at = span a (m .kilowatt);
@@ -106,24 +102,24 @@ gap-up c a b h m =
       missing = ap (quote c) (between-at a b (m .kilowatt) h (m .needed)) ∙ m .missing;
     }
 
-pub missing-flip : (c : Curve) (a b : ℤ) → Missing c a b → Missing c b a
-missing-flip c a b m = record { kilowatt = m .kilowatt; needed = between-flip a b (m .kilowatt) (m .needed); missing = m .missing }
+pub unquoted-flip : (c : Curve) (a b : ℤ) → Unquoted c a b → Unquoted c b a
+unquoted-flip c a b m = record { kilowatt = m .kilowatt; needed = between-flip a b (m .kilowatt) (m .needed); missing = m .missing }
 
-gap-missing : (c : Curve) (a b : ℤ) → Gap (quote c) a (span a b) → Missing c a b
-gap-missing c a b gap = record { kilowatt = a +ℤ pos (gap .at); needed = between-up a b (gap .at) (gap .below); missing = gap .missing }
+gap-unquoted : (c : Curve) (a b : ℤ) → Gap (quote c) a (span a b) → Unquoted c a b
+gap-unquoted c a b gap = record { kilowatt = a +ℤ pos (gap .at); needed = between-up a b (gap .at) (gap .below); missing = gap .missing }
 
-pub missing-none : (c : Curve) (a b : ℤ) → Missing c a b → integral c a b ≡ none
+pub unquoted-none : (c : Curve) (a b : ℤ) → Unquoted c a b → integral c a b ≡ none
 unfolding integral
-missing-none c a b m =
+unquoted-none c a b m =
     by-test (leZ a b)
     (λ t. (if t then sumUp (quote c) a (span a b) else change negℤ (sumUp (quote c) b (span b a))) ≡ none)
     (λ e. sum-up-none (quote c) a (span a b) (gap-up c a b e m))
-    (λ e. rw (sum-up-none (quote c) b (span b a) (gap-up c b a (omega arithℤ) (missing-flip c a b m))))
+    (λ e. rw (sum-up-none (quote c) b (span b a) (gap-up c b a (omega arithℤ) (unquoted-flip c a b m))))
 
-pub none-missing : (c : Curve) (a b : ℤ) → integral c a b ≡ none → Missing c a b
+pub none-unquoted : (c : Curve) (a b : ℤ) → integral c a b ≡ none → Unquoted c a b
 unfolding integral
-none-missing c a b =
+none-unquoted c a b =
     by-test (leZ a b)
-    (λ t. (if t then sumUp (quote c) a (span a b) else change negℤ (sumUp (quote c) b (span b a))) ≡ none → Missing c a b)
-    (λ e q. gap-missing c a b (none-sum-up (quote c) a (span a b) q))
-    (λ e q. missing-flip c b a (gap-missing c b a (none-sum-up (quote c) b (span b a) (change-none negℤ (sumUp (quote c) b (span b a)) q))))
+    (λ t. (if t then sumUp (quote c) a (span a b) else change negℤ (sumUp (quote c) b (span b a))) ≡ none → Unquoted c a b)
+    (λ e q. gap-unquoted c a b (none-sum-up (quote c) a (span a b) q))
+    (λ e q. unquoted-flip c b a (gap-unquoted c b a (none-sum-up (quote c) b (span b a) (change-none negℤ (sumUp (quote c) b (span b a)) q))))

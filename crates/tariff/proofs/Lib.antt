@@ -1,3 +1,4 @@
+-- What is proved of the definitions: `Demands` states it, the others hold the laws that it cites.
 pub mod Checks
 pub mod Curves
 pub mod Needed

@@ -1,5 +1,5 @@
 -- Laws of the kilowatts that an interval must price: its outcome reads their prices alone, and is unreached exactly when one has none.
-use mathlib.Core.Path.{_≡_, refl, sym, _∙_, ap}
+use mathlib.Core.Path.{_≡_, refl}
 use mathlib.Core.Bool.{Bool, true, false}
 use Prim.Native.Nat.{ℕ, _<_}
 use native.Mathlib.Omega.{arith}
@@ -10,12 +10,11 @@ use Rattle.tariff.specs.declared.DayAhead.{DayAhead}
 use Rattle.tariff.specs.declared.Interval.{Interval}
 use Rattle.tariff.specs.declared.Hour.{Hour}
 use Rattle.tariff.specs.Curve.{Amount, known, none, quote, change, integral}
-use Rattle.tariff.specs.Eligible.{lags}
-use Rattle.tariff.specs.Derate.{isDerated, reduced}
+use Rattle.tariff.specs.Derate.{reduced}
 use Rattle.tariff.specs.Contributions.{isLower, lowerLimit, upperLimit, lowerGrains, upperGrains, energy, cappedOf, energyOf, otherThanEnergy}
 use Rattle.tariff.specs.Hour.{interval, Outcome, gives, derated, unreached, withOthers, outcome, outcomeAt}
-use Rattle.tariff.specs.Demand.{Between, curveIn, limitIn, MustPrice, priceIn, Unpriced, DerateRefused}
-use Rattle.tariff.proofs.Curves.{Missing, change-none, between-flip, missing-flip, integral-same, missing-none, none-missing}
+use Rattle.tariff.specs.Demand.{Between, limitIn, MustPrice, priceIn, Unpriced, DerateRefused}
+use Rattle.tariff.proofs.Curves.{Unquoted, change-none, between-flip, unquoted-flip, integral-same, unquoted-none, none-unquoted}
 
 -- ---- energy, by the branch that is taken
 
@@ -30,13 +29,13 @@ module _ (da rt : Curve) (D LL UL pen s : ℤ) where
   branch-same true da′ rt′ h = rw (integral-same da da′ LL D (λ k w. h k (between-flip LL D k w)))
   branch-same false da′ rt′ h = rw (integral-same rt rt′ D UL h)
 
-  branch-none : (t : Bool) → Missing (if t then da else rt) D (if t then LL else UL) → branch t da rt D LL UL pen s ≡ none
-  branch-none true m = rw (missing-none da LL D (missing-flip da D LL m))
-  branch-none false m = rw (missing-none rt D UL m)
+  branch-none : (t : Bool) → Unquoted (if t then da else rt) D (if t then LL else UL) → branch t da rt D LL UL pen s ≡ none
+  branch-none true m = rw (unquoted-none da LL D (unquoted-flip da D LL m))
+  branch-none false m = rw (unquoted-none rt D UL m)
 
-  none-branch : (t : Bool) → branch t da rt D LL UL pen s ≡ none → Missing (if t then da else rt) D (if t then LL else UL)
-  none-branch true e = missing-flip da LL D (none-missing da LL D (change-none (lowerGrains D LL pen s) (integral da LL D) e))
-  none-branch false e = none-missing rt D UL (change-none (upperGrains D UL pen s) (integral rt D UL) e)
+  none-branch : (t : Bool) → branch t da rt D LL UL pen s ≡ none → Unquoted (if t then da else rt) D (if t then LL else UL)
+  none-branch true e = unquoted-flip da LL D (none-unquoted da LL D (change-none (lowerGrains D LL pen s) (integral da LL D) e))
+  none-branch false e = none-unquoted rt D UL (change-none (upperGrains D UL pen s) (integral rt D UL) e)
 
 module _ (da rt : Curve) (a : DayAhead) (v : Interval) where
   abbrev low : ℤ
@@ -54,11 +53,11 @@ module _ (da rt : Curve) (a : DayAhead) (v : Interval) where
   unfolding energy
   energy-same = branch-same da rt (reduced a v 0) low high (v .pen .0) (v .s .0) isLow
 
-  energy-none : Missing (if isLow then da else rt) (reduced a v 0) (limitIn a v) → energyOf da rt a v ≡ none
+  energy-none : Unquoted (if isLow then da else rt) (reduced a v 0) (limitIn a v) → energyOf da rt a v ≡ none
   unfolding energy
   energy-none = branch-none da rt (reduced a v 0) low high (v .pen .0) (v .s .0) isLow
 
-  none-energy : energyOf da rt a v ≡ none → Missing (if isLow then da else rt) (reduced a v 0) (limitIn a v)
+  none-energy : energyOf da rt a v ≡ none → Unquoted (if isLow then da else rt) (reduced a v 0) (limitIn a v)
   unfolding energy
   none-energy = none-branch da rt (reduced a v 0) low high (v .pen .0) (v .s .0) isLow
 

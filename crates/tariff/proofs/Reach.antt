@@ -1,12 +1,11 @@
 -- Demand 3: REACH is the reply exactly when a kilowatt that must be priced has no price, at the first such interval.
 use mathlib.Core.Path.{_≡_, refl, sym, _∙_, ap, subst}
-use mathlib.Core.Bool.{Bool, true, false}
+use mathlib.Core.Bool.{Bool}
 use mathlib.Core.Logic.{_↔_}
 use Prim.Native.Nat.{ℕ, _+_, _<_, _≤_}
 use native.Mathlib.Decide.{decLt}
 use native.Mathlib.Omega.{arith}
 use lib.Dec.{leb}
-use lib.IntN.{ℤ}
 use Rattle.tariff.specs.declared.Hour.{Hour}
 use Rattle.tariff.specs.declared.Expected.{Expected}
 use Rattle.tariff.specs.Units.{centsOf}
@@ -63,9 +62,9 @@ module _ (h : Hour) (isExcluded : Bool) where
         at = i;
         below = u;
         before = λ j v.
-        fault-clear j (outcomeAt h isExcluded j)
-        (λ e. w .underated j (omega arith) (derated-refused h isExcluded j (omega arith) e))
-        (λ e. w .first j v (unreached-unpriced h isExcluded j (omega arith) e));
+            fault-clear j (outcomeAt h isExcluded j)
+            (λ e. w .underated j (omega arith) (derated-refused h isExcluded j (omega arith) e))
+            (λ e. w .first j v (unreached-unpriced h isExcluded j (omega arith) e));
         gives = ap (faultAt i) (unpriced-unreached h isExcluded i (w .here));
       }
 

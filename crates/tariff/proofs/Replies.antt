@@ -1,22 +1,20 @@
 -- Laws of the reply: what holds of a paid hour, and hours that differ in their curves alone.
 use mathlib.Core.Path.{_≡_, refl, sym, _∙_, ap, subst}
 use mathlib.Core.Bool.{Bool, true, false}
-use mathlib.Core.List.{List, _++_}
+use mathlib.Core.List.{List}
 use Prim.Native.Nat.{ℕ, _<_, _≤_}
 use native.Mathlib.Omega.{arith}
 use borrow.Author.Tests.{leb-true}
 use lib.Dec.{leb}
-use lib.ListN.{length, drop}
+use lib.ListN.{length}
 use lib.IntN.{ℤ}
 use Rattle.exact.specs.Choice.{if_then_else_}
-use Rattle.exact.specs.Whole.{upTo, sumTo}
 use Rattle.exact.proofs.Sums.{sum-same, up-same}
 use Rattle.tariff.specs.declared.Curve.{Curve}
 use Rattle.tariff.specs.declared.Hour.{Hour}
 use Rattle.tariff.specs.declared.Expected.{Expected}
-use Rattle.tariff.specs.Units.{centsOf}
 use Rattle.tariff.specs.Curve.{Amount, known, none, quote}
-use Rattle.tariff.specs.Reply.{Reply, paid, refused, Verdict, clear, fault, unless, _then_, otherwise}
+use Rattle.tariff.specs.Reply.{Reply, paid, refused, clear}
 use Rattle.tariff.specs.Contributions.{isLower}
 use Rattle.tariff.specs.Derate.{reduced}
 use Rattle.tariff.specs.Hour.{interval, form, range, order, curves, secondsSum, outcomeAt, unreached, faultAt, intervals, amount, contribution, hourSum, blockFault, reply, rowFor, rowAfter}

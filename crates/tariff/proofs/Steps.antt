@@ -1,5 +1,5 @@
 -- The steps of a curve: which kilowatts have a price, and that further steps change none.
-use mathlib.Core.Path.{_≡_, refl, sym, _∙_, ap}
+use mathlib.Core.Path.{_≡_, refl, _∙_, ap}
 use mathlib.Core.Bool.{Bool, true, false, _&&_}
 use mathlib.Core.Logic.{_↔_}
 use Prim.Native.Nat.{ℕ, zero, suc, _+_, _-_, _<_, _≤_}
@@ -8,13 +8,13 @@ use native.Mathlib.Omega.{arith}
 use borrow.Author.Tests.{eqb-true}
 use lib.Dec.{eqb}
 use lib.IntN.{ℤ, pos}
-use lib.Signed.{ltZ, leZ, _≤ℤ_, _<ℤ_, ≤ℤ-refl}
+use lib.Signed.{ltZ, _≤ℤ_, _<ℤ_, ≤ℤ-refl}
 use Rattle.exact.specs.Choice.{if_then_else_}
-use Rattle.exact.specs.Whole.{over, under, eqZ}
+use Rattle.exact.specs.Whole.{eqZ}
 use Rattle.exact.proofs.Parts.{arithℤ, by-test}
 use Rattle.tariff.specs.declared.Curve.{Curve}
 use Rattle.tariff.specs.Sheet.{endOf, priceOf, beginOf, allTo, rises, isFair, stepKeeps, curveKeeps}
-use Rattle.tariff.specs.Curve.{Amount, known, none, quoteFrom, quote}
+use Rattle.tariff.specs.Curve.{known, none, quoteFrom, quote}
 use Rattle.tariff.specs.Demand.{Extends}
 
 -- ---- the first step that ends above k
