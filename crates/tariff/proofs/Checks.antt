@@ -1,0 +1,87 @@
+-- Laws of checks in their order: the first fault stands.
+use mathlib.Core.Path.{_≡_, refl, _∙_, ap}
+use mathlib.Core.Bool.{Bool, true, false}
+use Prim.Native.Nat.{ℕ, zero, suc, _<_}
+use native.Mathlib.Decide.{decLt}
+use native.Mathlib.Omega.{arith}
+use lib.IntN.{ℤ}
+use Rattle.tariff.specs.Reply.{Reply, paid, refused, Verdict, clear, fault, unless, _then_, otherwise, firstOf}
+
+-- ---- two checks, one after the other
+
+pub then-clear : (v w : Verdict) → (v then w) ≡ clear → (v ≡ clear) × (w ≡ clear)
+then-clear clear w e = (refl, e)
+then-clear (fault number place) w e = absurd (let z : _≡_ {A = ℕ} 0 1 = cc in omega arith)
+
+pub unless-clear : (b : Bool) (number place : ℕ) → unless b number place ≡ clear → b ≡ true
+unless-clear true number place e = refl
+unless-clear false number place e = absurd (let z : _≡_ {A = ℕ} 0 1 = cc in omega arith)
+
+-- a fault that the last check cannot give stands among those before it
+pub then-fault : (v : Verdict) (b : Bool) (m p number place : ℕ) → (number ≡ m → ⊥) → (v then unless b m p) ≡ fault number place → v ≡ fault number place
+then-fault clear true m p number place h e = absurd (let z : _≡_ {A = ℕ} 0 1 = cc in omega arith)
+then-fault clear false m p number place h e = absurd (h (cc))
+then-fault (fault a b) t m p number place h e = e
+
+-- ---- a reply
+
+pub otherwise-paid : (v : Verdict) (r : Reply) (sum cents : ℤ) → otherwise v r ≡ paid sum cents → v ≡ clear
+otherwise-paid clear r sum cents e = refl
+otherwise-paid (fault number place) r sum cents e = absurd (let z : _≡_ {A = ℕ} 0 1 = cc in omega arith)
+
+pub otherwise-refused : (v : Verdict) (sum cents : ℤ) (number place : ℕ) → otherwise v (paid sum cents) ≡ refused number place → v ≡ fault number place
+otherwise-refused clear sum cents number place e = absurd (let z : _≡_ {A = ℕ} 0 1 = cc in omega arith)
+otherwise-refused (fault a b) sum cents number place e = cc
+
+-- ---- one check at 0, 1, .. below n
+
+pub first-same : (f g : ℕ → Verdict) (n : ℕ) → ((i : ℕ) → i < n → f i ≡ g i) → firstOf f n ≡ firstOf g n
+unfolding firstOf
+first-same f g zero h = refl
+first-same f g (suc n) h = rw (first-same f g n (λ i u. h i (omega arith)), h n (omega arith))
+
+-- clear: every one is clear, and the other way round
+pub first-clear : (check : ℕ → Verdict) (n : ℕ) → firstOf check n ≡ clear → (i : ℕ) → i < n → check i ≡ clear
+unfolding firstOf
+first-clear check zero e i u = absurd (omega arith)
+first-clear check (suc n) e i u = go (then-clear (firstOf check n) (check n) e) (first-clear check n) (decLt i n)
+  where
+    go : (firstOf check n ≡ clear) × (check n ≡ clear) → (firstOf check n ≡ clear → (i : ℕ) → i < n → check i ≡ clear) → Dec (i < n) → check i ≡ clear
+    go p ih (yes v) = ih (p .0) i v
+    go p ih (no v) = let same : i ≡ n = omega arith in ap check same ∙ p .1
+
+pub clear-first : (check : ℕ → Verdict) (n : ℕ) → ((i : ℕ) → i < n → check i ≡ clear) → firstOf check n ≡ clear
+unfolding firstOf
+clear-first check zero h = refl
+clear-first check (suc n) h = rw (clear-first check n (λ i u. h i (omega arith)), h n (omega arith))
+
+-- a fault: one gives it, and all before are clear; and the other way round
+pub record FirstFault (check : ℕ → Verdict) (n number place : ℕ) : Type 0 where
+  pub at : ℕ
+  pub below : at < n
+  pub before : (j : ℕ) → j < at → check j ≡ clear
+  pub gives : check at ≡ fault number place
+
+pub first-fault : (check : ℕ → Verdict) (n number place : ℕ) → firstOf check n ≡ fault number place → FirstFault check n number place
+unfolding firstOf
+first-fault check zero number place e = absurd (let z : _≡_ {A = ℕ} 0 1 = cc in omega arith)
+first-fault check (suc n) number place e = go (firstOf check n) refl (first-fault check n number place) e
+  where
+    go : (v : Verdict) → firstOf check n ≡ v → (firstOf check n ≡ fault number place → FirstFault check n number place) → (v then check n) ≡ fault number place
+        → FirstFault check (suc n) number place
+    go clear q ih e = record { at = n; below = omega arith; before = first-clear check n q; gives = e }
+    go (fault a b) q ih e =
+        let f = ih (q ∙ e) in
+        record { at = f .at; below = let u = f .below in omega arith; before = f .before; gives = f .gives }
+
+pub fault-first : (check : ℕ → Verdict) (n number place : ℕ) → FirstFault check n number place → firstOf check n ≡ fault number place
+unfolding firstOf
+fault-first check zero number place f = absurd (let u = f .below in omega arith)
+fault-first check (suc n) number place f = go (fault-first check n number place) (decLt (f .at) n)
+  where
+    go : (FirstFault check n number place → firstOf check n ≡ fault number place) → Dec (f .at < n) → (firstOf check n then check n) ≡ fault number place
+    go ih (yes u) = rw (ih (record { at = f .at; below = u; before = f .before; gives = f .gives }))
+    go ih (no u) =
+        let same : f .at ≡ n = let b = f .below in omega arith in
+        let c : firstOf check n ≡ clear = clear-first check n (λ j v. f .before j (omega arith)) in
+        rw (c, ← same) (f .gives)

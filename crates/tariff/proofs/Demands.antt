@@ -1,0 +1,113 @@
+-- The theorems of the definitions: demand 3, the lent row, the one answer to a reply, and the price of a kilowatt.
+use mathlib.Core.Path.{_≡_}
+use mathlib.Core.Bool.{Bool, true}
+use mathlib.Core.List.{List}
+use mathlib.Core.Logic.{_↔_}
+use Prim.Native.Nat.{ℕ, _+_, _-_, _<_, _≤_}
+use lib.ListN.{length, getD}
+use lib.IntN.{ℤ, pos}
+use lib.Signed.{_≤ℤ_, _<ℤ_}
+use Rattle.tariff.specs.declared.Curve.{Curve}
+use Rattle.tariff.specs.declared.Hour.{Hour}
+use Rattle.tariff.specs.declared.Expected.{Expected}
+use Rattle.tariff.specs.declared.Answer.{Answer}
+use Rattle.tariff.specs.declared.Found.{Found}
+use Rattle.tariff.specs.Sheet.{endOf, priceOf, beginOf, curveKeeps}
+use Rattle.tariff.specs.Curve.{known, quote}
+use Rattle.tariff.specs.Reply.{Reply, paid, refused, Verdict, told, shown}
+use Rattle.tariff.specs.Hour.{contribution, reply, rowAfter}
+use Rattle.tariff.specs.Demand.{MustPrice, priceIn, FirstUnpriced, Alike, NoFaultTo4, NoFaultTo5, Extends}
+use Rattle.tariff.proofs.Replies.{needed-same, extended-same}
+use Rattle.tariff.proofs.Reach.{reach-when}
+use Rattle.tariff.proofs.Steps.{more-steps, priced-iff, step-price}
+use Rattle.tariff.proofs.Rows.{row-paid, row-refused}
+use Rattle.tariff.proofs.Answers.{answer-one, finding-one}
+
+-- ---- demand 3
+
+-- Only the prices of the kilowatts between D and the limit matter: two hours that are alike in all but their curves, that no
+-- check from 1 to 4 refuses, and whose prices agree on every kilowatt that must be priced, have one reply and one row.
+pub only-needed-prices-matter :
+    (h g : Hour) (isExcluded : Bool) (expected : Expected) (row : List ℤ)
+    → Alike h g
+    → NoFaultTo4 h expected
+    → NoFaultTo4 g expected
+    → ((i : ℕ) (k : ℤ) → MustPrice h isExcluded i k → priceIn h i k ≡ priceIn g i k)
+    → (reply h isExcluded expected (length row) ≡ reply g isExcluded expected (length row)) × (rowAfter h isExcluded expected row ≡ rowAfter g isExcluded expected row)
+only-needed-prices-matter = needed-same
+
+-- REACH is given exactly when a kilowatt that must be priced has no price: at the first interval that has one, and where no
+-- DERATE stands at or before it.
+pub reach-exactly-when-unpriced :
+    (h : Hour) (isExcluded : Bool) (expected : Expected) (room i : ℕ)
+    → NoFaultTo5 h expected
+    → (reply h isExcluded expected room ≡ refused 7 (i + 1)) ↔ FirstUnpriced h isExcluded i
+reach-exactly-when-unpriced = reach-when
+
+-- Adding curve to a paid hour changes nothing: with every price that its curves had, and perhaps more, it pays the same and
+-- leaves the same row.
+pub adding-curve-changes-nothing :
+    (h g : Hour) (isExcluded : Bool) (expected : Expected) (row : List ℤ) (sum cents : ℤ)
+    → Alike h g
+    → NoFaultTo4 g expected
+    → Extends (h .da) (g .da)
+    → Extends (h .rt) (g .rt)
+    → reply h isExcluded expected (length row) ≡ paid sum cents
+    → (reply g isExcluded expected (length row) ≡ paid sum cents) × (rowAfter g isExcluded expected row ≡ rowAfter h isExcluded expected row)
+adding-curve-changes-nothing = extended-same
+
+-- A curve with further steps at its end has every price that it had.
+pub more-steps-extend :
+    (c d : Curve)
+    → c .start ≡ d .start
+    → c .n ≤ d .n
+    → ((j : ℕ) → j < c .n → (endOf c j ≡ endOf d j) × (priceOf c j ≡ priceOf d j))
+    → Extends c d
+more-steps-extend = more-steps
+
+-- ---- the lent row
+
+-- Paid: the first entries, one per interval, are the contributions, and later ones are as before.
+pub paid-row :
+    (h : Hour) (isExcluded : Bool) (expected : Expected) (row : List ℤ) (sum cents : ℤ)
+    → reply h isExcluded expected (length row) ≡ paid sum cents
+    → ((i : ℕ) → i < h .n → getD (rowAfter h isExcluded expected row) i (pos 0) ≡ contribution h isExcluded i)
+    × ((i : ℕ) → h .n ≤ i → getD (rowAfter h isExcluded expected row) i (pos 0) ≡ getD row i (pos 0))
+    × (length (rowAfter h isExcluded expected row) ≡ length row)
+paid-row = row-paid
+
+-- Refused: no entry is changed.
+pub refused-row :
+    (h : Hour) (isExcluded : Bool) (expected : Expected) (row : List ℤ) (number place : ℕ)
+    → reply h isExcluded expected (length row) ≡ refused number place
+    → rowAfter h isExcluded expected row ≡ row
+refused-row = row-refused
+
+-- ---- no two different replies satisfy a contract
+
+pub one-reply : (a b : Answer) (r : Reply) → told a ≡ r → told b ≡ r → a ≡ b
+one-reply = answer-one
+
+pub one-finding : (a b : Found) (v : Verdict) → shown a ≡ v → shown b ≡ v → a ≡ b
+one-finding = finding-one
+
+-- ---- the price of a kilowatt
+
+-- Kilowatt k has a price when start ≤ k < last end.
+pub priced-between :
+    (c : Curve)
+    → curveKeeps c ≡ true
+    → (k : ℤ)
+    → ((p : ℤ) × (quote c k ≡ known p)) ↔ ((c .start .0 ≤ℤ k) × (0 < c .n) × (k <ℤ endOf c (c .n - 1)))
+priced-between = priced-iff
+
+-- Each step runs to its end at its price.
+pub price-of-step :
+    (c : Curve)
+    → curveKeeps c ≡ true
+    → (j : ℕ) (k : ℤ)
+    → j < c .n
+    → beginOf c j ≤ℤ k
+    → k <ℤ endOf c j
+    → quote c k ≡ known (priceOf c j)
+price-of-step = step-price
