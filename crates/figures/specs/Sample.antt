@@ -1,8 +1,7 @@
 -- The hours that document 01's figures speak of, as records: what a figure does not name is 0, and an hour has four quarters.
-use mathlib.Core.List.{List, [], _∷_, _++_}
+use mathlib.Core.List.{_∷_}
 use mathlib.Core.Bool.{false}
-use Prim.Native.Nat.{ℕ, _-_}
-use lib.ListN.{length, replicate}
+use lib.ListN.{replicate}
 use lib.IntN.{ℤ, pos, negℤ}
 use Rattle.tariff.specs.declared.Curve.{Curve}
 use Rattle.tariff.specs.declared.DayAhead.{DayAhead}
