@@ -1,0 +1,108 @@
+-- Document 01's "Figures to prove" in one table, what the definitions compute beside what the paper prints, and the claim that the two agree.
+use mathlib.Core.Path.{_≡_, refl, ap}
+use mathlib.Core.Bool.{false}
+use mathlib.Core.List.{List, [], _∷_, _++_}
+use Prim.Native.Nat.{ℕ}
+use lib.ListN.{replicate}
+use lib.IntN.{ℤ, pos, negℤ}
+use Rattle.exact.specs.Whole.{span, minℤ, maxℤ, upTo, sumTo}
+use Rattle.tariff.specs.declared.DayAhead.{DayAhead}
+use Rattle.tariff.specs.declared.Hour.{Hour}
+use Rattle.tariff.specs.declared.Uol.{Uol}
+use Rattle.tariff.specs.declared.Uol.the-variants.{Missing, At}
+use Rattle.tariff.specs.declared.Expected.the-variants.{Any}
+use Rattle.tariff.specs.Units.{centsOf}
+use Rattle.tariff.specs.Sheet.{allTo, aheadInRange, curveInRange, intervalInRange, curveKeeps}
+use Rattle.tariff.specs.Curve.{quoteFrom, quote, sumUp, integral}
+use Rattle.tariff.specs.Reply.{Reply, paid, refused, firstOf}
+use Rattle.tariff.specs.Eligible.{someTo, excluded}
+use Rattle.tariff.specs.Derate.{reduction, potential, floorOf, remainder, leftOver, one, share, isDerated, reduced}
+use Rattle.tariff.specs.Contributions.{lowerLimit, upperLimit, energy, reserve, regulation, movement, otherThanEnergy}
+use Rattle.tariff.specs.Hour.{interval, form, range, order, curves, secondsSum, Outcome, gives, derated, unreached, outcome, outcomeAt, intervals, reply}
+use Rattle.figures.specs.Sample.{worked, withdrawing, moving, derating, overDerated, marks, shortCurve}
+use Rattle.figures.specs.Worked.{worked-gives, worked-paid}
+
+-- ---- a row, and what the table claims
+
+-- the figure's number (11 is the run that the paper names after P10), what the definitions compute, and what the paper prints
+pub record Row : Type 0 where
+  pub figure : ℕ
+  pub computed : List ℤ
+  pub printed : List ℤ
+
+infix 1 P_is_prints_
+infixr 1 _and_
+abbrev pub P_is_prints_ : ℕ → List ℤ → List ℤ → Row
+P figure is computed prints printed = record { figure = figure; computed = computed; printed = printed }
+
+-- computed and printed agree in every row
+pub data Holds : List Row → Type 0 where
+  done : Holds []
+  _and_ : {row : Row} {rows : List Row} → row .computed ≡ row .printed → Holds rows → Holds (row ∷ rows)
+
+-- ---- answers as numbers: 0 and the amounts, or the number of the check that refuses, so that no refusal passes for an amount
+
+abbrev pub told : Outcome → List ℤ
+told (gives grains) = pos 0 ∷ grains ∷ []
+told derated = pos 6 ∷ []
+told unreached = pos 7 ∷ []
+
+abbrev pub replied : Reply → List ℤ
+replied (paid sum cents) = pos 0 ∷ sum ∷ cents ∷ []
+replied (refused number place) = pos number ∷ pos place ∷ []
+
+-- interval i, from 0; and the whole hour, eligible, of any number, with a row of 30 entries
+abbrev pub at : Hour → ℕ → List ℤ
+at h i = told (outcome h (interval h i))
+
+abbrev pub whole : Hour → List ℤ
+whole h = replied (reply h false Any 30)
+
+-- ---- the derate of an hour's first interval: REDtot, the five POTRED, the five shares
+
+abbrev pub redTotBy : DayAhead → Uol → ℕ
+redTotBy a Missing = 0
+redTotBy a (At limit) = reduction a (limit .0)
+
+abbrev pub redTot : Hour → ℕ
+redTot h = redTotBy (h .ahead) (interval h 0 .uol)
+
+abbrev pub potRed : Hour → ℕ → ℕ
+potRed h = potential (h .ahead) (interval h 0)
+
+abbrev pub five : (ℕ → ℕ) → List ℤ
+five f = upTo (λ j. pos (f j)) 5
+
+-- ---- the table
+
+abbrev pub figures : List Row
+figures =
+    (P 1 is at worked 0 prints (pos 0 ∷ pos 27000000000 ∷ []))
+    ∷ (P 2 is at worked 1 prints (pos 0 ∷ pos 72900000000 ∷ []))
+    ∷ (P 3 is at worked 2 prints (pos 0 ∷ negℤ (pos 9000000000) ∷ []))
+    ∷ (P 4 is at worked 3 prints (pos 0 ∷ pos 0 ∷ []))
+    ∷ (P 4 is whole worked prints (pos 0 ∷ pos 90900000000 ∷ pos 25250 ∷ []))
+    ∷ (P 5 is at withdrawing 0 prints (pos 0 ∷ pos 13500000000 ∷ []))
+    ∷ (P 6 is reserve (pos 10000) (pos 12000) (pos 800) (pos 0) (pos 900) ∷ [] prints (negℤ (pos 1440000000) ∷ []))
+    ∷ (P 7 is at moving 0 prints (pos 0 ∷ negℤ (pos 144000000) ∷ []))
+    ∷ (P 8 is centsOf (pos 3599999) ∷ centsOf (pos 3600000) ∷ centsOf (negℤ (pos 1)) ∷ [] prints (pos 0 ∷ pos 1 ∷ pos 0 ∷ []))
+    ∷ (P 9 is pos (redTot derating) ∷ five (potRed derating) prints (pos 10000 ∷ pos 20000 ∷ pos 10000 ∷ pos 0 ∷ pos 0 ∷ pos 0 ∷ []))
+    ∷ (P 9 is five (share (potRed derating) (redTot derating)) prints (pos 6667 ∷ pos 3333 ∷ pos 0 ∷ pos 0 ∷ pos 0 ∷ []))
+    ∷ (P 9 is pos (redTot overDerated) ∷ five (potRed overDerated) prints (pos 30001 ∷ pos 20000 ∷ pos 10000 ∷ pos 0 ∷ pos 0 ∷ pos 0 ∷ []))
+    ∷ (P 9 is whole overDerated prints (pos 6 ∷ pos 1 ∷ []))
+    ∷ (P 10 is upTo (λ h. pos (one (excluded 24 marks h))) 24 prints (replicate 3 (pos 0) ++ replicate 5 (pos 1) ++ replicate 16 (pos 0)))
+    ∷ (P 11 is whole shortCurve prints (pos 7 ∷ pos 1 ∷ []))
+    ∷ []
+
+pub figures-hold : Holds figures
+unfolding
+    outcome isDerated reduced energy lowerLimit upperLimit minℤ maxℤ integral span sumUp quote quoteFrom otherThanEnergy regulation reserve movement
+    centsOf upTo share floorOf remainder leftOver excluded someTo
+    reply form range aheadInRange curveInRange intervalInRange allTo firstOf order curves curveKeeps secondsSum sumTo intervals outcomeAt
+figures-hold =
+    ap told (worked-gives .0)
+    and ap told (worked-gives .1)
+    and ap told (worked-gives .2)
+    and ap told (worked-gives .3)
+    and ap replied worked-paid
+    and refl and refl and refl and refl and refl and refl and refl and refl and refl and refl and done
