@@ -2,16 +2,17 @@
 use mathlib.Core.Path.{_≡_, refl, sym, _∙_, ap, subst}
 use mathlib.Core.Bool.{Bool, true, false, not}
 use Prim.Native.Nat.{ℕ, zero, suc, _+_, _*_, _/_, _%_, _^_, _<_, _≤_}
-use native.Mathlib.Nat.{div-le-self, mod-le}
+use native.Mathlib.Nat.{div-le-self}
 use native.Mathlib.Omega.{arith}
-use lib.Dec.{T, ltb, leb}
+use lib.Dec.{T, ltb, leb, eqb}
+use borrow.Author.Tests.{eqb-true, eqb-false}
 use lib.IntN.{ℤ, pos, negsuc, negℤ, _+ℤ_, _-ℤ_, _*ℤ_}
-use lib.Signed.{ltZ, leZ, mag, quotZ, remZ}
+use lib.Signed.{ltZ, leZ, mag, quotZ}
 use mir.Syntax.{w64}
 use mir.Val.{SFits, toZ, ofZ}
 use mir.Facts.{toZ-ofZ}
 use Rattle.exact.specs.Whole.{over, under, minℤ, maxℤ, eqZ, Within}
-use Rattle.exact.proofs.Parts.{arithℤ, min-parts, max-parts, apart, true-eqZ, false-eqZ}
+use Rattle.exact.proofs.Parts.{arithℤ, by-test, min-parts, max-parts, apart, true-eqZ, false-eqZ}
 use Rattle.exact.proofs.Range.{within-add, within-less, within-mul, within-neg, within-fits, within-more}
 
 -- x as a local holds it: its bits, read back
@@ -67,9 +68,14 @@ module _ (a b : ℤ) (fa : mag a < 2 ^ 63) (fb : mag b < 2 ^ 63) where
   pub ne-held : (ofZ w64 a ≡ ofZ w64 b → ⊥) → eqZ a b ≡ false
   ne-held n = false-eqZ a b (λ e. n (ap (ofZ w64) e))
 
-  module _ (t : Bool) (e : ltZ (held a) (held b) ≡ t) where
-    pub lt-is : ltZ a b ≡ t
-    lt-is = sym lt-held ∙ e
+  pub eq-is : eqb (ofZ w64 a) (ofZ w64 b) ≡ eqZ a b
+  eq-is =
+      by-test (eqb (ofZ w64 a) (ofZ w64 b)) (λ t. t ≡ eqZ a b)
+      (λ e. sym (eq-held (eqb-true (ofZ w64 a) (ofZ w64 b) e)))
+      (λ e. sym (ne-held (eqb-false (ofZ w64 a) (ofZ w64 b) e)))
+
+  pub lt-is : (t : Bool) → ltZ (held a) (held b) ≡ t → ltZ a b ≡ t
+  lt-is t e = sym lt-held ∙ e
 
   pub min-yes : ltZ (held a) (held b) ≡ true → a ≡ minℤ a b
   min-yes e = let h = lt-is true e in omega (arithℤ, min-parts a b)
@@ -83,8 +89,27 @@ module _ (a b : ℤ) (fa : mag a < 2 ^ 63) (fb : mag b < 2 ^ 63) where
   pub max-no : ltZ (held a) (held b) ≡ false → a ≡ maxℤ a b
   max-no e = let h = lt-is false e in omega (arithℤ, max-parts a b)
 
--- ---- a quotient and a remainder of what is not negative
-pub quot-over : (a b : ℤ) → ltZ a (pos 0) ≡ false → ltZ b (pos 0) ≡ false → quotZ a b ≡ pos (over a / over b)
-quot-over (pos m) (pos n) h k = refl
-quot-over (pos m) (negsuc n) h k = absurd (let z : _≡_ {A = ℕ} 0 1 = cc in omega arith)
-quot-over (negsuc m) b h k = absurd (let z : _≡_ {A = ℕ} 0 1 = cc in omega arith)
+-- ---- a literal, and a quotient by one, of what is not negative
+pub literal : (n : ℕ) → Is n (pos n) (pos n)
+literal n = plain (record { above = omega arith; below = omega arith })
+
+pub over-none : (a : ℤ) → ltZ a (pos 0) ≡ true → over a ≡ 0
+over-none a h = omega (arithℤ, apart a)
+
+quot-over : (a : ℤ) (k : ℕ) → ltZ a (pos 0) ≡ false → quotZ a (pos k) ≡ pos (over a / k)
+quot-over (pos n) k h = refl
+quot-over (negsuc n) k h = absurd (let z : _≡_ {A = ℕ} 0 1 = cc in omega arith)
+
+quot-small : (a : ℤ) (k : ℕ) → mag a < 2 ^ 63 → ltZ a (pos 0) ≡ false → SFits w64 (quotZ a (pos k))
+quot-small (pos n) k f h = record { sfits = omega (arith, div-le-self n k) }
+quot-small (negsuc n) k f h = absurd (let z : _≡_ {A = ℕ} 0 1 = cc in omega arith)
+
+module _ (a : ℤ) (k : ℕ) (fa : mag a < 2 ^ 63) (h : ltZ a (pos 0) ≡ false) where
+  quot-held : quotZ (held a) (pos k) ≡ quotZ a (pos k)
+  quot-held = ap (λ (z : ℤ). quotZ z (pos k)) (toZ-ofZ {w = w64} {z = a} (record { sfits = fa }))
+
+  pub quot-fits : SFits w64 (quotZ (held a) (pos k))
+  quot-fits = subst (SFits w64) (sym quot-held) (quot-small a k fa h)
+
+  pub quot-is : held (quotZ (held a) (pos k)) ≡ pos (over a / k)
+  quot-is = toZ-ofZ quot-fits ∙ quot-held ∙ quot-over a k h
