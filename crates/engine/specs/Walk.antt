@@ -2,10 +2,10 @@
 use mathlib.Core.Path.{_≡_}
 use mathlib.Core.Bool.{Bool, true, false}
 use mathlib.Core.List.{List, map}
-use Prim.Native.Nat.{ℕ, _<_, _≤_}
-use lib.ListN.{length, take, getD}
+use Prim.Native.Nat.{ℕ, _<_}
+use lib.ListN.{length, getD}
 use lib.IntN.{ℤ, pos}
-use Rattle.exact.specs.Whole.{Within, upTo}
+use Rattle.exact.specs.Whole.{Within}
 use Rattle.tariff.specs.declared.Grains.{Grains}
 use Rattle.tariff.specs.declared.Hour.{Hour}
 use Rattle.tariff.specs.Units.{grains}
@@ -19,12 +19,13 @@ grainsAt l i = getD l i (grains (pos 0)) .0
 abbrev pub raws : List Grains → List ℤ
 raws l = map (λ (g : Grains). g .0) l
 
+-- each entry keeps within what an interval can contribute
+pub record Bounded (l : List Grains) : Type 0 where
+  pub each : (i : ℕ) → Within 100000000000000000 (grainsAt l i)
+
 -- the first fault of checks 6 and 7; where there is none, the contributions stand in front
 pub record WalkedTo (h : Hour) (isExcluded : Bool) (r : Walked) : Type 0 where
   pub first : shown (r .found) ≡ intervals h isExcluded
   pub long : length (r .parts) ≡ 30
+  pub bounded : Bounded (r .parts)
   pub written : shown (r .found) ≡ clear → (i : ℕ) → i < h .n → grainsAt (r .parts) i ≡ contribution h isExcluded i
-
--- the first n entries keep within what an interval can contribute
-pub record Bounded (l : List Grains) (n : ℕ) : Type 0 where
-  pub each : (i : ℕ) → i < n → Within 100000000000000000 (grainsAt l i)

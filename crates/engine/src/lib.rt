@@ -28,7 +28,7 @@ mod walk;
 
 // The sum of the first `n` contributions.
 fn sum_of(parts: [Grains; 30], n: usize) -> Grains
-    requires { ⌜ (n ≤ 30) × Bounded parts n ⌝ }
+    requires { ⌜ (n ≤ 30) × Bounded parts ⌝ }
     ensures { λ r. ⌜ r .0 ≡ sumTo (grainsAt parts) n ⌝ }
 {
     let mut sum = Grains(0);

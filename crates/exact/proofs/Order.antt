@@ -1,12 +1,12 @@
 -- Places and distances: x is a and the steps from a up to x.
 use mathlib.Core.Path.{_≡_, refl, sym, _∙_, ap}
-use mathlib.Core.Bool.{Bool, true, false}
+use mathlib.Core.Bool.{Bool, true, false, not}
 use Prim.Native.Nat.{ℕ, zero, suc, _+_, _-_, _<_, _≤_}
 use native.Mathlib.Omega.{arith}
 use lib.IntN.{ℤ, pos, negℤ, _+ℤ_, _-ℤ_, +ℤ-assoc}
 use lib.Signed.{_≤ℤ_, _<ℤ_, leZ, ltZ}
 use Rattle.exact.specs.Whole.{over, under, minℤ, maxℤ, span}
-use Rattle.exact.proofs.Parts.{arithℤ, add-parts, less-parts, apart, span-parts, min-parts, max-parts}
+use Rattle.exact.proofs.Parts.{arithℤ, add-parts, less-parts, apart, by-test, span-parts, min-parts, max-parts}
 
 -- ---- from a up to b, where b is not below a
 
@@ -27,6 +27,10 @@ span-gap a b h = omega (arithℤ, less-parts b a, span-parts a b)
 
 pub lt-flip : (a b : ℤ) → ltZ a b ≡ true → ltZ b a ≡ false
 lt-flip a b h = omega arithℤ
+
+-- each test of order by the other
+pub le-not-lt : (a b : ℤ) → leZ a b ≡ not (ltZ b a)
+le-not-lt a b = by-test (ltZ b a) (λ t. leZ a b ≡ not t) (λ e. omega arithℤ) (λ e. omega arithℤ)
 
 pub step-step : (a : ℤ) (i d : ℕ) → (a +ℤ pos i) +ℤ pos d ≡ a +ℤ pos (i + d)
 step-step a i d = +ℤ-assoc a (pos i) (pos d)

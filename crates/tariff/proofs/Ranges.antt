@@ -1,0 +1,160 @@
+-- What the range tests say: how far each number is from 0, for sums and products that must fit.
+use mathlib.Core.Path.{_≡_, refl, _∙_, ap}
+use mathlib.Core.Logic.{_↔_}
+use mathlib.Core.Bool.{Bool, true, false, false≢true, and-eq-true-iff}
+use Prim.Native.Nat.{ℕ, zero, suc, _+_, _<_, _≤_}
+use native.Mathlib.Decide.{decLt}
+use native.Mathlib.Omega.{arith}
+use borrow.Author.Tests.{leb-true}
+use lib.IntN.{ℤ, pos, negℤ}
+use lib.Signed.{_≤ℤ_, leZ}
+use Rattle.exact.specs.Whole.{under, Within}
+use Rattle.exact.proofs.Parts.{arithℤ, apart}
+use Rattle.tariff.specs.declared.Curve.{Curve}
+use Rattle.tariff.specs.declared.DayAhead.{DayAhead}
+use Rattle.tariff.specs.declared.Interval.{Interval}
+use Rattle.tariff.specs.declared.Hour.{Hour}
+use Rattle.tariff.specs.Sheet.{liesIn, isSeconds, isHour, isPower, isCapacity, isBid, isPrice, endOf, priceOf, allTo, aheadInRange, stepInRange, curveInRange, uolInRange, intervalInRange}
+use Rattle.tariff.specs.Reply.{Verdict, clear, fault, unless, _then_, firstOf}
+use Rattle.tariff.specs.Hour.{interval, form, range}
+use Rattle.tariff.proofs.Tests.{and-left, and-right, and-both, all-at}
+
+-- ---- one number
+
+module _ (low : ℤ) (N : ℕ) {z : ℤ} (e : liesIn low (pos N) z ≡ true) where
+  at-least : low ≤ℤ z
+  at-least = omega (arithℤ, and-left (leZ low z) (leZ z (pos N)) e)
+
+  lies-within : under low ≤ N → Within N z
+  lies-within h = omega (arithℤ, apart z, and-left (leZ low z) (leZ z (pos N)) e, and-right (leZ low z) (leZ z (pos N)) e)
+
+pub power-within : {z : ℤ} → isPower z ≡ true → Within 2000000 z
+power-within e = lies-within (negℤ (pos 2000000)) 2000000 e (omega arith)
+
+pub capacity-within : {z : ℤ} → isCapacity z ≡ true → Within 2000000 z
+capacity-within e = lies-within (pos 0) 2000000 e (omega arith)
+
+pub capacity-least : {z : ℤ} → isCapacity z ≡ true → pos 0 ≤ℤ z
+capacity-least e = at-least (pos 0) 2000000 e
+
+pub price-within : {z : ℤ} → isPrice z ≡ true → Within 1000000 z
+price-within e = lies-within (negℤ (pos 1000000)) 1000000 e (omega arith)
+
+pub bid-within : {z : ℤ} → isBid z ≡ true → Within 1000000 z
+bid-within e = lies-within (pos 0) 1000000 e (omega arith)
+
+pub seconds-within : {z : ℤ} → isSeconds z ≡ true → Within 900 z
+seconds-within e = lies-within (pos 1) 900 e (omega arith)
+
+-- ---- line 1
+
+pub record AheadFits (a : DayAhead) : Type 0 where
+  pub en : Within 2000000 (a .en .0)
+  pub reg : Within 2000000 (a .reg .0)
+  pub r1 : Within 2000000 (a .r1 .0)
+  pub r2 : Within 2000000 (a .r2 .0)
+  pub r3 : Within 2000000 (a .r3 .0)
+  pub breg : Within 1000000 (a .breg .0)
+  pub b1 : Within 1000000 (a .b1 .0)
+  pub b2 : Within 1000000 (a .b2 .0)
+  pub b3 : Within 1000000 (a .b3 .0)
+
+pub ahead-fits : (a : DayAhead) → aheadInRange a ≡ true → AheadFits a
+unfolding aheadInRange
+ahead-fits a e = let h = simp and-eq-true-iff at e in search (power-within, capacity-within, bid-within, and-both)
+
+-- ---- an interval line
+
+pub record IntervalFits (v : Interval) : Type 0 where
+  pub s : Within 900 (v .s .0)
+  pub en : Within 2000000 (v .en .0)
+  pub ae : Within 2000000 (v .ae .0)
+  pub co : Within 2000000 (v .co .0)
+  pub eop : Within 2000000 (v .eop .0)
+  pub pen : Within 1000000 (v .pen .0)
+  pub lim : Within 2000000 (v .lim .0)
+  pub r1 : Within 2000000 (v .r1 .0)
+  pub r2 : Within 2000000 (v .r2 .0)
+  pub r3 : Within 2000000 (v .r3 .0)
+  pub p1 : Within 1000000 (v .p1 .0)
+  pub p2 : Within 1000000 (v .p2 .0)
+  pub p3 : Within 1000000 (v .p3 .0)
+  pub reg : Within 2000000 (v .reg .0)
+  pub preg : Within 1000000 (v .preg .0)
+  pub breg : Within 1000000 (v .breg .0)
+  pub mv : Within 2000000 (v .mv .0)
+  pub pmv : Within 1000000 (v .pmv .0)
+  pub bmv : Within 1000000 (v .bmv .0)
+
+pub interval-fits : (v : Interval) → intervalInRange v ≡ true → IntervalFits v
+unfolding intervalInRange
+interval-fits v e =
+    let h = simp and-eq-true-iff at e in
+    search (seconds-within, power-within, capacity-within, price-within, bid-within, and-both)
+
+pub uol-fits : (v : Interval) → intervalInRange v ≡ true → uolInRange (v .uol) ≡ true
+unfolding intervalInRange
+uol-fits v e = let h = simp and-eq-true-iff at e in search h
+
+-- ---- a curve
+
+pub record CurveFits (c : Curve) : Type 0 where
+  pub start : Within 2000000 (c .start .0)
+  pub ends : (j : ℕ) → j < c .n → Within 2000000 (endOf c j)
+  pub prices : (j : ℕ) → j < c .n → Within 1000000 (priceOf c j)
+
+module _ (c : Curve) (e : curveInRange c ≡ true) where
+  start-test : isPower (c .start .0) ≡ true
+  unfolding curveInRange
+  start-test = and-left (isPower (c .start .0)) (allTo (stepInRange c) (c .n)) e
+
+  steps-test : allTo (stepInRange c) (c .n) ≡ true
+  unfolding curveInRange
+  steps-test = and-right (isPower (c .start .0)) (allTo (stepInRange c) (c .n)) e
+
+  step-test : (j : ℕ) → j < c .n → stepInRange c j ≡ true
+  step-test j u = all-at (stepInRange c) (c .n) j steps-test u
+
+  pub curve-fits : CurveFits c
+  curve-fits =
+      record {
+        start = power-within start-test;
+        ends = λ j u. power-within (and-left (isPower (endOf c j)) (isPrice (priceOf c j)) (step-test j u));
+        prices = λ j u. price-within (and-right (isPower (endOf c j)) (isPrice (priceOf c j)) (step-test j u));
+      }
+
+-- ---- checks 1 and 2, where they find nothing
+
+never : {number place : ℕ} → fault number place ≡ clear → ⊥
+never e = let z : _≡_ {A = ℕ} 0 1 = cc in omega arith
+
+unless-clear : (b : Bool) (number place : ℕ) → (unless b number place ≡ clear) ↔ (b ≡ true)
+unless-clear true number place = (λ e. refl, λ e. refl)
+unless-clear false number place = (λ e. absurd (never e), λ e. absurd (false≢true e))
+
+then-clear : (v w : Verdict) → ((v then w) ≡ clear) ↔ ((v ≡ clear) × (w ≡ clear))
+then-clear clear w = (λ e. (refl, e), λ e. e .1)
+then-clear (fault number place) w = (λ e. absurd (never e), λ e. absurd (never (e .0)))
+
+first-clear : (check : ℕ → Verdict) (n i : ℕ) → firstOf check n ≡ clear → i < n → check i ≡ clear
+unfolding firstOf
+first-clear check zero i e u = absurd (omega arith)
+first-clear check (suc n) i e u = go (first-clear check n i (w .0)) (decLt i n)
+  where
+    w : (firstOf check n ≡ clear) × (check n ≡ clear)
+    w = simp then-clear at e
+
+    go : (i < n → check i ≡ clear) → Dec (i < n) → check i ≡ clear
+    go ih (yes v) = ih v
+    go ih (no v) = let same : i ≡ n = omega arith in ap check same ∙ w .1
+
+pub form-says : (h : Hour) → form h ≡ clear → (h .da .n ≤ 12) × (h .rt .n ≤ 12) × (h .n ≤ 30)
+unfolding form
+form-says h e = let w = simp (then-clear, unless-clear) at e in omega (arith, leb-true)
+
+pub range-says : (h : Hour) → range h ≡ clear → (isHour (h .hour) ≡ true) × (aheadInRange (h .ahead) ≡ true) × (curveInRange (h .da) ≡ true) × (curveInRange (h .rt) ≡ true) × ((i : ℕ) → i < h .n → intervalInRange (interval h i) ≡ true)
+unfolding range
+range-says h e =
+    let w = simp (then-clear, unless-clear, and-eq-true-iff) at e in
+    let each : firstOf (λ i. unless (intervalInRange (interval h i)) 2 (i + 4)) (h .n) ≡ clear = search w in
+    (search and-both, search w, search w, search w, λ i u. simp unless-clear at (first-clear _ (h .n) i each u))

@@ -1,0 +1,41 @@
+-- Tests joined: a conjunction taken apart, and a test that holds at each number below n.
+use mathlib.Core.Path.{_≡_, refl, sym, _∙_, ap}
+use mathlib.Core.Bool.{Bool, true, false, _&&_, false≢true}
+use Prim.Native.Nat.{ℕ, zero, suc, _+_, _<_}
+use native.Mathlib.Numerals.{add-one}
+use native.Mathlib.Decide.{decLt}
+use native.Mathlib.Omega.{arith}
+use Rattle.exact.proofs.Parts.{by-test}
+use Rattle.tariff.specs.Sheet.{allTo}
+
+pub and-left : (a b : Bool) → (a && b) ≡ true → a ≡ true
+and-left true b e = refl
+and-left false b e = e
+
+pub and-right : (a b : Bool) → (a && b) ≡ true → b ≡ true
+and-right true b e = e
+and-right false b e = absurd (false≢true e)
+
+pub and-both : (a b : Bool) → a ≡ true → b ≡ true → (a && b) ≡ true
+and-both true b p q = q
+and-both false b p q = p
+
+pub all-none : (f : ℕ → Bool) → allTo f 0 ≡ true
+unfolding allTo
+all-none f = refl
+
+pub all-more : (f : ℕ → Bool) (n : ℕ) → allTo f (n + 1) ≡ (allTo f n && f n)
+unfolding allTo
+all-more f n = rw add-one
+
+pub all-at : (f : ℕ → Bool) (n j : ℕ) → allTo f n ≡ true → j < n → f j ≡ true
+unfolding allTo
+all-at f zero j e u = absurd (omega arith)
+all-at f (suc n) j e u = go (all-at f n j (and-left (allTo f n) (f n) e)) (decLt j n)
+  where
+    go : (j < n → f j ≡ true) → Dec (j < n) → f j ≡ true
+    go ih (yes v) = ih v
+    go ih (no v) = let same : j ≡ n = omega arith in ap f same ∙ and-right (allTo f n) (f n) e
+
+pub all-not : (f : ℕ → Bool) (n j : ℕ) → j < n → f j ≡ false → allTo f n ≡ false
+all-not f n j u e = by-test (allTo f n) (λ b. b ≡ false) (λ h. sym (all-at f n j h u) ∙ e) (λ h. refl)
