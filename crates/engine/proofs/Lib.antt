@@ -1,6 +1,10 @@
 -- Laws that the proofs of the engine's functions cite.
 pub mod Calls
 pub mod Tests
+pub mod Fives
+pub mod Cuts
+pub mod Derates
 pub mod Schedules
 pub mod Tasks
+pub mod Scans
 pub mod Walks

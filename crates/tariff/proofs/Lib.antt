@@ -6,6 +6,7 @@ pub mod Curves
 pub mod Scan
 pub mod Ranks
 pub mod Shares
+pub mod Reduced
 pub mod Limits
 pub mod Others
 pub mod Needed
