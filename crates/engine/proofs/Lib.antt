@@ -7,4 +7,5 @@ pub mod Derates
 pub mod Schedules
 pub mod Tasks
 pub mod Scans
+pub mod Fits
 pub mod Walks
