@@ -1,0 +1,91 @@
+-- Keys and their numbers at a place of a text, and a line of them.
+use mathlib.Core.Path.{_≡_}
+use mathlib.Core.Bool.{Bool, true, false, _||_}
+use mathlib.Core.List.{List, [], _∷_, _++_}
+use Prim.Native.Nat.{ℕ, zero, suc, _+_, _-_, _<_}
+use lib.Dec.{eqb}
+use lib.ListN.{getD, replicate}
+use lib.IntN.{ℤ, pos}
+use Rattle.exact.specs.Choice.{if_then_else_}
+use Rattle.exact.specs.Whole.{upTo}
+use Rattle.sheet.specs.declared.number.Number.{Number}
+use Rattle.sheet.specs.declared.number.Number.the-variants.{Got, Bad}
+use Rattle.sheet.specs.declared.number.Next.{Next}
+use Rattle.sheet.specs.declared.number.Next.the-variants.{At, Wrong}
+use Rattle.sheet.specs.declared.line.Fields.{Fields}
+use Rattle.sheet.specs.Text.{byteAt}
+use Rattle.sheet.specs.Number.{numberAt}
+use Rattle.sheet.specs.Keys.{keyOf}
+
+-- a fixed byte string, compared at a place: the place after it
+unfoldable pub keyAt : List ℕ → List ℕ → ℕ → Next
+keyAt [] s at = At at
+keyAt (k ∷ ks) s at =
+    let rest = keyAt ks s (at + 1) in
+    if eqb (byteAt s at) k then rest else Wrong
+
+-- only `uol` may be missing, as a minus alone: read as a number that seven digits cannot say
+abbrev pub missing : ℤ
+missing = pos 10000000
+
+abbrev pub orMissing : Number → List ℕ → ℕ → Number
+orMissing (Got v next) s at = Got v next
+orMissing Bad s at = if eqb (byteAt s at) 45 then Got missing (at + 1) else Bad
+
+-- the value behind key k: 23 is `uol`
+unfoldable pub valueAt : ℕ → List ℕ → ℕ → Number
+valueAt k s at = if eqb k 23 then orMissing (numberAt s at) s at else numberAt s at
+
+abbrev pub valueAfter : ℕ → List ℕ → Next → Number
+valueAfter k s (At next) = valueAt k s next
+valueAfter k s Wrong = Bad
+
+-- key k and its value
+unfoldable pub fieldAt : ℕ → List ℕ → ℕ → Number
+fieldAt k s at = valueAfter k s (keyAt (keyOf k) s at)
+
+abbrev pub placeOf : Number → Next
+placeOf (Got v next) = At next
+placeOf Bad = Wrong
+
+abbrev pub valueOf : Number → ℤ
+valueOf (Got v next) = v
+valueOf Bad = pos 0
+
+abbrev pub andThen : Next → (ℕ → Next) → Next
+andThen (At next) f = f next
+andThen Wrong f = Wrong
+
+-- the place after n fields, from key `first` on
+unfoldable pub afterFields : (first n : ℕ) → List ℕ → ℕ → Next
+afterFields first zero s at = At at
+afterFields first (suc n) s at = andThen (afterFields first n s at) (λ i. placeOf (fieldAt (first + n) s i))
+
+abbrev pub valueFrom : ℕ → List ℕ → Next → ℤ
+valueFrom k s (At i) = valueOf (fieldAt k s i)
+valueFrom k s Wrong = pos 0
+
+-- the value of the field number n of them
+unfoldable pub valueIn : (first : ℕ) → List ℕ → ℕ → ℕ → ℤ
+valueIn first s at n = valueFrom (first + n) s (afterFields first n s at)
+
+-- what the code's loop over a line's keys has read
+pub record FieldsRead (first count : ℕ) (s : List ℕ) (at : ℕ) (r : Fields) : Type 0 where
+  pub next : r .next ≡ afterFields first count s at
+  pub values : (n : ℕ) → n < count → getD (r .values) n (pos 0) ≡ valueIn first s at n
+
+-- the end of a line
+abbrev pub lineFeed : List ℕ → ℕ → Next
+lineFeed s at = keyAt (10 ∷ []) s at
+
+-- a line of n fields
+unfoldable pub lineAt : (first n : ℕ) → List ℕ → ℕ → Next
+lineAt first n s at = andThen (afterFields first n s at) (lineFeed s)
+
+-- a block ends at the end of input or at an empty line
+unfoldable pub closes : List ℕ → ℕ → Bool
+closes s at = eqb (byteAt s at) 256 || eqb (byteAt s at) 10
+
+-- the first `count` of an array of `total` are f's, and the rest are d
+abbrev pub filled {ℓ} : {A : Type ℓ} → (count total : ℕ) → (ℕ → A) → A → List A
+filled count total f d = upTo f count ++ replicate (total - count) d

@@ -1,0 +1,3 @@
+mod block;
+mod line;
+mod number;

@@ -1,0 +1,138 @@
+// Lines of keys and values. The table of keys is `key_number`: a new key is one more line there.
+ghost use mathlib.Core.Path.{_≡_};
+ghost use Prim.Native.Nat.{ℕ, _+_, _<_, _≤_};
+ghost use lib.IntN.{ℤ, pos};
+ghost use lib.ListN.{getD};
+ghost use Rattle.sheet.specs.Keys.{keyOf};
+ghost use Rattle.sheet.specs.Line.{keyAt, fieldAt, andThen, lineFeed, closes, FieldsRead};
+use crate::number;
+use crate::number::Next;
+use crate::number::Number;
+
+// Key k at a place.
+pub fn key_number(s: &[u8], at: usize, k: usize) -> Next
+    requires { ⌜ k < 58 ⌝ }
+    ensures { λ r. ⌜ r ≡ keyAt (keyOf k) (now (s .entry)) at ⌝ }
+{
+    match k {
+        0 => number::key_at(s, at, b"hour="),
+        1 => number::key_at(s, at, b" en="),
+        2 => number::key_at(s, at, b" reg="),
+        3 => number::key_at(s, at, b" r1="),
+        4 => number::key_at(s, at, b" r2="),
+        5 => number::key_at(s, at, b" r3="),
+        6 => number::key_at(s, at, b" breg="),
+        7 => number::key_at(s, at, b" b1="),
+        8 => number::key_at(s, at, b" b2="),
+        9 => number::key_at(s, at, b" b3="),
+        10 => number::key_at(s, at, b"da="),
+        11 => number::key_at(s, at, b" n="),
+        12 => number::key_at(s, at, b"rt="),
+        13 => number::key_at(s, at, b" n="),
+        14 => number::key_at(s, at, b" to="),
+        15 => number::key_at(s, at, b" at="),
+        16 => number::key_at(s, at, b"s="),
+        17 => number::key_at(s, at, b" en="),
+        18 => number::key_at(s, at, b" ae="),
+        19 => number::key_at(s, at, b" co="),
+        20 => number::key_at(s, at, b" eop="),
+        21 => number::key_at(s, at, b" pen="),
+        22 => number::key_at(s, at, b" lim="),
+        23 => number::key_at(s, at, b" uol="),
+        24 => number::key_at(s, at, b" r1="),
+        25 => number::key_at(s, at, b" r2="),
+        26 => number::key_at(s, at, b" r3="),
+        27 => number::key_at(s, at, b" p1="),
+        28 => number::key_at(s, at, b" p2="),
+        29 => number::key_at(s, at, b" p3="),
+        30 => number::key_at(s, at, b" reg="),
+        31 => number::key_at(s, at, b" preg="),
+        32 => number::key_at(s, at, b" breg="),
+        33 => number::key_at(s, at, b" mv="),
+        34 => number::key_at(s, at, b" pmv="),
+        35 => number::key_at(s, at, b" bmv="),
+        36 => number::key_at(s, at, b"import="),
+        37 => number::key_at(s, at, b" cts="),
+        38 => number::key_at(s, at, b"hour="),
+        39 => number::key_at(s, at, b" den="),
+        40 => number::key_at(s, at, b" dec="),
+        41 => number::key_at(s, at, b"s="),
+        42 => number::key_at(s, at, b" cut="),
+        43 => number::key_at(s, at, b" prof="),
+        44 => number::key_at(s, at, b" rten="),
+        45 => number::key_at(s, at, b" lbmp="),
+        46 => number::key_at(s, at, b" bid="),
+        47 => number::key_at(s, at, b" def="),
+        48 => number::key_at(s, at, b"form="),
+        49 => number::key_at(s, at, b"unit="),
+        50 => number::key_at(s, at, b"rtc="),
+        51 => number::key_at(s, at, b"cat="),
+        52 => number::key_at(s, at, b"x1="),
+        53 => number::key_at(s, at, b"x2="),
+        54 => number::key_at(s, at, b"x3="),
+        55 => number::key_at(s, at, b"x4="),
+        56 => number::key_at(s, at, b"x5="),
+        _ => number::key_at(s, at, b"x6="),
+    }
+}
+
+// Key k and its value: the one way to read a field.
+pub fn field_at(s: &[u8], at: usize, k: usize) -> Number
+    requires { ⌜ k < 58 ⌝ }
+    ensures { λ r. ⌜ r ≡ fieldAt k (now (s .entry)) at ⌝ }
+{
+    number::value_after(s, key_number(s, at, k), k)
+}
+
+// The values of a line's fields, and the place after them.
+pub struct Fields {
+    pub next: Next,
+    pub values: [i64; 20],
+}
+
+// The one loop over a line's keys: `count` fields from key `first` on.
+pub fn fields_at(s: &[u8], at: usize, first: usize, count: usize) -> Fields
+    requires { ⌜ (first + count ≤ 58) × (count ≤ 20) ⌝ }
+    ensures { λ r. ⌜ FieldsRead first count (now (s .entry)) at r ⌝ }
+{
+    let mut values = [0i64; 20];
+    let mut i = at;
+    let mut n: usize = 0;
+    while n < count {
+        let field = field_at(s, i, first + n);
+        let Number::Got(v, next) = field else {
+            return Fields {
+                next: Next::Wrong,
+                values,
+            };
+        };
+        values[n] = v;
+        i = next;
+        n += 1;
+    }
+    Fields {
+        next: Next::At(i),
+        values,
+    }
+}
+
+// The end of the line, where its fields were as printed.
+pub fn line_end(s: &[u8], next: Next) -> Next
+    ensures { λ r. ⌜ r ≡ andThen next (lineFeed (now (s .entry))) ⌝ }
+{
+    match next {
+        Next::At(at) => number::key_at(s, at, b"\n"),
+        Next::Wrong => Next::Wrong,
+    }
+}
+
+// A block ends at the end of input or at an empty line.
+pub fn is_closed(s: &[u8], at: usize) -> bool
+    ensures { λ r. ⌜ r ≡ closes (now (s .entry)) at ⌝ }
+{
+    let b = number::byte_at(s, at);
+    if b == 256 {
+        return true;
+    }
+    if b == 10 { true } else { false }
+}
