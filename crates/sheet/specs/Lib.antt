@@ -4,3 +4,4 @@ pub mod Number
 pub mod Keys
 pub mod Line
 pub mod Block
+pub mod Apart

@@ -1,4 +1,4 @@
-// Lines of keys and values. The table of keys is `key_number`: a new key is one more line there.
+// Lines of keys and values. The table of keys is `hour_key`, `interval_key` and `other_key`: a new key is one more line there.
 ghost use mathlib.Core.Path.{_≡_};
 ghost use Prim.Native.Nat.{ℕ, _+_, _<_, _≤_};
 ghost use lib.IntN.{ℤ, pos};
@@ -9,9 +9,9 @@ use crate::number;
 use crate::number::Next;
 use crate::number::Number;
 
-// Key k at a place.
-pub fn key_number(s: &[u8], at: usize, k: usize) -> Next
-    requires { ⌜ k < 58 ⌝ }
+// Keys 0 to 15: the lines of an hour block.
+fn hour_key(s: &[u8], at: usize, k: usize) -> Next
+    requires { ⌜ k < 16 ⌝ }
     ensures { λ r. ⌜ r ≡ keyAt (keyOf k) (now (s .entry)) at ⌝ }
 {
     match k {
@@ -30,7 +30,16 @@ pub fn key_number(s: &[u8], at: usize, k: usize) -> Next
         12 => number::key_at(s, at, b"rt="),
         13 => number::key_at(s, at, b" n="),
         14 => number::key_at(s, at, b" to="),
-        15 => number::key_at(s, at, b" at="),
+        _ => number::key_at(s, at, b" at="),
+    }
+}
+
+// Keys 16 to 35: an interval line.
+fn interval_key(s: &[u8], at: usize, k: usize) -> Next
+    requires { ⌜ (16 ≤ k) × (k < 36) ⌝ }
+    ensures { λ r. ⌜ r ≡ keyAt (keyOf k) (now (s .entry)) at ⌝ }
+{
+    match k {
         16 => number::key_at(s, at, b"s="),
         17 => number::key_at(s, at, b" en="),
         18 => number::key_at(s, at, b" ae="),
@@ -50,7 +59,16 @@ pub fn key_number(s: &[u8], at: usize, k: usize) -> Next
         32 => number::key_at(s, at, b" breg="),
         33 => number::key_at(s, at, b" mv="),
         34 => number::key_at(s, at, b" pmv="),
-        35 => number::key_at(s, at, b" bmv="),
+        _ => number::key_at(s, at, b" bmv="),
+    }
+}
+
+// Keys 36 to 57: an import's lines and a day's header.
+fn other_key(s: &[u8], at: usize, k: usize) -> Next
+    requires { ⌜ (36 ≤ k) × (k < 58) ⌝ }
+    ensures { λ r. ⌜ r ≡ keyAt (keyOf k) (now (s .entry)) at ⌝ }
+{
+    match k {
         36 => number::key_at(s, at, b"import="),
         37 => number::key_at(s, at, b" cts="),
         38 => number::key_at(s, at, b"hour="),
@@ -74,6 +92,20 @@ pub fn key_number(s: &[u8], at: usize, k: usize) -> Next
         56 => number::key_at(s, at, b"x5="),
         _ => number::key_at(s, at, b"x6="),
     }
+}
+
+// Key k at a place.
+pub fn key_number(s: &[u8], at: usize, k: usize) -> Next
+    requires { ⌜ k < 58 ⌝ }
+    ensures { λ r. ⌜ r ≡ keyAt (keyOf k) (now (s .entry)) at ⌝ }
+{
+    if k < 16 {
+        return hour_key(s, at, k);
+    }
+    if k < 36 {
+        return interval_key(s, at, k);
+    }
+    other_key(s, at, k)
 }
 
 // Key k and its value: the one way to read a field.

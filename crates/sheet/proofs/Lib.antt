@@ -1,0 +1,3 @@
+-- Laws that the proofs of the reader's functions cite.
+pub mod Numbers
+pub mod Lines

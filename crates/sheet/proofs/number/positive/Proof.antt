@@ -1,0 +1,14 @@
+-- `sheet::number::positive` is the number that its digits say.
+use borrow.Author.Needs.{needs}
+use Rattle.sheet.proofs.Numbers.{positive-is}
+use Rattle.sheet.proofs.number.positive.Statement.{statement}
+use Rattle.sheet.proofs.number.positive.Tie as tie
+
+cast-result : tie.Need-cast-result
+cast-result c = search needs
+
+returns : tie.Need-returns
+returns c = positive-is _ (c .pre)
+
+pub positive-spec : {M : Type 1} → statement M
+positive-spec = tie.close (tie.spec cast-result returns)

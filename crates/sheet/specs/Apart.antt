@@ -1,0 +1,22 @@
+-- Two block texts that differ in their curve lines only.
+use mathlib.Core.Path.{_≡_}
+use mathlib.Core.List.{List, _++_}
+use Prim.Native.Nat.{ℕ, _+_}
+use lib.ListN.{length}
+use Rattle.sheet.specs.declared.number.Next.the-variants.{At}
+use Rattle.sheet.specs.Line.{andThen, lineAt}
+use Rattle.sheet.specs.Block.{curveLine}
+
+-- line 1 of a text ends where `first` does, and its two curve lines where `curves` does
+pub record InThree (s first curves rest : List ℕ) : Type 0 where
+  pub parts : s ≡ first ++ curves ++ rest
+  pub line1 : lineAt 0 10 s 0 ≡ At (length first)
+  pub lines23 : andThen (curveLine 10 s (length first)) (curveLine 12 s) ≡ At (length first + length curves)
+
+pub record CurvesApart (s t : List ℕ) : Type 0 where
+  pub first : List ℕ
+  pub curves : List ℕ
+  pub others : List ℕ
+  pub rest : List ℕ
+  pub one : InThree s first curves rest
+  pub other : InThree t first others rest
