@@ -3,7 +3,6 @@ use mathlib.Core.Path.{_≡_, subst}
 use mathlib.Core.Bool.{true, false}
 use Prim.Native.Nat.{ℕ}
 use native.Mathlib.Omega.{arith}
-use lib.IntN.{pos}
 use Rattle.exact.specs.Choice.{if_then_else_}
 use Rattle.exact.proofs.Parts.{by-test}
 use Rattle.exact.proofs.Range.{within-zero}

@@ -9,3 +9,4 @@ pub mod Tasks
 pub mod Scans
 pub mod Fits
 pub mod Walks
+pub mod Paid

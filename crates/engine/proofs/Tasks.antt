@@ -1,29 +1,33 @@
 -- An interval's outcome, by the task that the walk takes: the one integral from D to the limit serves both branches.
 use mathlib.Core.Path.{_≡_, refl, sym, ap, _∙_}
 use mathlib.Core.Bool.{Bool, true, false}
-use Prim.Native.Nat.{ℕ, _*_}
-use native.Mathlib.Omega.{arith}
-use lib.IntN.{ℤ, pos, negℤ, _+ℤ_, _-ℤ_, _*ℤ_, +ℤ-idl, negℤ-negℤ}
+use mathlib.Core.List.{List}
+use Prim.Native.Nat.{ℕ}
+use lib.IntN.{ℤ, pos, negℤ, _+ℤ_, _-ℤ_, _*ℤ_, +ℤ-idl}
 use lib.Signed.{ltZ, leZ}
 use Rattle.exact.specs.Choice.{if_then_else_}
 use Rattle.exact.specs.Whole.{minℤ, maxℤ, span, Within}
 use Rattle.exact.proofs.Parts.{arithℤ, by-test, min-parts, max-parts}
-use Rattle.exact.proofs.Ring.{expandℤ, cancelℤ}
+use Rattle.exact.proofs.Ring.{expandℤ}
 use Rattle.exact.proofs.Order.{lt-flip, span-none, min-of′, max-of′}
 use Rattle.exact.proofs.Range.{within-add, within-less, within-mul, within-min, within-zero, within-lit}
+use Rattle.tariff.specs.declared.Kw.{Kw}
+use Rattle.tariff.specs.declared.Grains.{Grains}
 use Rattle.tariff.specs.declared.Curve.{Curve}
 use Rattle.tariff.specs.declared.DayAhead.{DayAhead}
 use Rattle.tariff.specs.declared.Interval.{Interval}
 use Rattle.tariff.specs.declared.Hour.{Hour}
-use Rattle.tariff.specs.Units.{kw, price, seconds, grains}
+use Rattle.tariff.specs.Units.{kw, price, seconds, grains, grainsOf}
 use Rattle.tariff.specs.Curve.{Amount, known, none, change, quote, sumUp, integral}
 use Rattle.tariff.specs.Eligible.{lags}
 use Rattle.tariff.specs.Derate.{isDerated, reduced}
 use Rattle.tariff.specs.Contributions.{isLower, lowerLimit, upperLimit, lowerGrains, upperGrains, limitOf, cappedOf, energy, energyOf, otherThanEnergy}
-use Rattle.tariff.specs.Hour.{Outcome, gives, derated, unreached, withOthers, outcome}
+use Rattle.tariff.specs.Hour.{gives, derated, withOthers, outcome}
+use Rattle.tariff.proofs.Limits.{within-if}
 use Rattle.engine.specs.declared.steps.Task.{Task}
 use Rattle.engine.specs.declared.steps.Prepared.the-variants.{Exceeds, Ready}
-use Rattle.engine.specs.Task.{idleTask, taskOf, preparedOf, lowOf, highOf, curveOf, costUp, signedCost, energyPart, finished, ofCost, ofPrepared, Fitting}
+use Rattle.engine.specs.Five.{kwFive, kwAt}
+use Rattle.engine.specs.Task.{idleTask, taskOf, preparedOf, curveOf, costUp, signedCost, energyPart, finished, ofCost, ofPrepared, Fitting}
 
 -- ---- an integral by the order of its ends
 
@@ -150,23 +154,55 @@ task-outcome h v =
     (λ _. refl)
     (λ _. energy-task (h .da) (h .rt) (reduced (h .ahead) v 0) (v .pen .0) (v .s .0) (otherThanEnergy (h .ahead) v) (v .en .0) (v .eop .0) (cappedOf v)))
 
+-- ---- an interval's task, by its figures
+
+module _ (a : DayAhead) (v : Interval) (q : List Kw) (e : q ≡ kwFive (reduced a v)) where
+  pub task-same :
+      (lower : Bool)
+      (limit counted : Kw)
+      (others : Grains)
+      → lower ≡ isLower (kwAt q 0) (v .en .0)
+      → counted .0 ≡ cappedOf v
+      → limit .0 ≡ limitOf (kwAt q 0) (v .en .0) (v .eop .0) (counted .0)
+      → others .0 ≡ otherThanEnergy a v
+      → record { lower = lower; from = kw (kwAt q 0); limit = limit; pen = v .pen; s = v .s; others = others } ≡ taskOf a v
+  task-same lower limit counted others l c m o =
+      λ i.
+      record {
+        lower = (l ∙ (λ j. isLower (kwAt (e j) 0) (v .en .0))) i;
+        from = kw (kwAt (e i) 0);
+        limit = kw ((m ∙ (λ j. limitOf (kwAt (e j) 0) (v .en .0) (v .eop .0) (c j))) i);
+        pen = v .pen;
+        s = v .s;
+        others = grains (o i);
+      }
+
+-- ---- a contribution by its branch
+
+pub finished-lower : (t : Task) (cost : ℤ) → t .lower ≡ true → finished t cost ≡ energyPart t cost +ℤ t .others .0
+unfolding finished
+finished-lower t cost e = rw e
+
+pub finished-upper : (t : Task) (cost : ℤ) → t .lower ≡ false → finished t cost ≡ minℤ (energyPart t cost) (pos 0) +ℤ t .others .0
+unfolding finished
+finished-upper t cost e = rw e
+
 -- ---- what the walk's figures keep within
 
-pub finished-within : (t : Task) (cost : ℤ) → Fitting t → Within 4000000000000000 cost → Within 100000000000000000 (finished t cost)
-unfolding finished
-finished-within t cost f w =
-    within-lit {A = 59200000000000000} tt (within-add {A = 19200000000000000} (energy-within (t .lower)) (f .others))
-  where
-    sold : Within (4000000 * 1000000 * 900) ((t .from .0 -ℤ t .limit .0) *ℤ t .pen .0 *ℤ t .s .0)
-    sold = within-mul (within-mul (within-less (f .from) (f .limit)) (f .pen)) (f .s)
+module _ (t : Task) (cost : ℤ) (f : Fitting t) (w : Within 4000000000000000 cost) where
+  pub sold-within : Within 3600000000000000 (grainsOf (t .from .0 -ℤ t .limit .0) (t .pen .0) (t .s .0))
+  sold-within = within-mul (within-mul (within-less (f .from) (f .limit)) (f .pen)) (f .s)
 
-    signed : (b : Bool) → Within 4000000000000000 (if b then pos 0 -ℤ cost else cost)
-    signed true = within-less (within-zero 0) w
-    signed false = w
+  pub signed-within : Within 4000000000000000 (signedCost t cost)
+  signed-within = within-if (ltZ (t .limit .0) (t .from .0)) (within-less (within-zero 0) w) w
 
-    part : Within 19200000000000000 (energyPart t cost)
-    part = within-lit tt (within-add sold (signed (ltZ (t .limit .0) (t .from .0))))
+  pub energy-within : Within 7600000000000000 (energyPart t cost)
+  energy-within = within-add sold-within signed-within
 
-    energy-within : (b : Bool) → Within 19200000000000000 (if b then energyPart t cost else minℤ (energyPart t cost) (pos 0))
-    energy-within true = part
-    energy-within false = within-min part (within-zero 19200000000000000)
+  pub finished-within : Within 100000000000000000 (finished t cost)
+  unfolding finished
+  finished-within =
+      within-lit {A = 47600000000000000} tt
+      (within-add {A = 7600000000000000}
+      (within-if (t .lower) energy-within (within-min energy-within (within-zero 7600000000000000)))
+      (f .others))

@@ -1,13 +1,13 @@
 -- The walk over the intervals: what holds at interval i, one interval more, and each way that it ends.
 use mathlib.Core.Path.{_≡_, refl, sym, ap, _∙_}
-use mathlib.Core.Bool.{Bool, true, false}
+use mathlib.Core.Bool.{true, false}
 use mathlib.Core.List.{List}
 use Prim.Native.Nat.{ℕ, zero, suc, _+_, _<_, _≤_}
 use native.Mathlib.Numerals.{add-one}
 use native.Mathlib.Decide.{ℕ-discrete}
 use native.Mathlib.Omega.{arith}
-use lib.IntN.{ℤ, pos}
-use lib.ListN.{getD, length, set, replicate, length-set}
+use lib.IntN.{pos}
+use lib.ListN.{length, set, replicate, length-set}
 use lib.Seq.{getD-set-same, getD-set-other}
 use Rattle.exact.specs.Whole.{Within}
 use Rattle.exact.proofs.Range.{within-zero}
@@ -17,9 +17,9 @@ use Rattle.tariff.specs.declared.Found.{Found}
 use Rattle.tariff.specs.declared.Found.the-variants.{Nothing, Fault}
 use Rattle.tariff.specs.declared.Check.the-variants.{Derate, Reach}
 use Rattle.tariff.specs.Units.{grains}
-use Rattle.tariff.specs.Reply.{Verdict, clear, fault, shown, firstOf}
-use Rattle.tariff.specs.Hour.{interval, Outcome, gives, derated, unreached, outcome, outcomeAt, faultAt, intervals, contribution}
-use Rattle.tariff.proofs.Checks.{first-clear, fault-first}
+use Rattle.tariff.specs.Reply.{Verdict, clear, fault, firstOf}
+use Rattle.tariff.specs.Hour.{interval, gives, derated, unreached, outcome, outcomeAt, faultAt, intervals, contribution}
+use Rattle.tariff.proofs.Checks.{first-clear, clear-first, fault-first}
 use Rattle.engine.specs.declared.steps.Walked.{Walked}
 use Rattle.engine.specs.Walk.{grainsAt, Bounded, WalkedTo}
 
@@ -55,6 +55,17 @@ walk-begins h =
 
 abbrev pub walked : (found : Found) → List Grains → Walked
 walked found parts = record { found = found; parts = parts }
+
+-- an excluded hour: no interval is asked, and each contributes nothing
+pub walk-excluded : (h : Hour) → WalkedTo h true (walked Nothing (replicate 30 (grains (pos 0))))
+unfolding intervals contribution outcomeAt
+walk-excluded h =
+    record {
+      first = sym (clear-first (λ i. clear) (h .n) (λ i u. refl));
+      long = refl;
+      bounded = zeros-bounded;
+      written = λ _ i u. zeros-at 30 i;
+    }
 
 -- no fault is found where one is shown
 no-clear : (number place : ℕ) → fault number place ≡ clear → ⊥

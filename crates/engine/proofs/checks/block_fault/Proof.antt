@@ -1,15 +1,11 @@
 -- `checks::block_fault` meets its contract: the checks are asked in their order, and the first fault stands.
-use mathlib.Core.Path.{_≡_, sym, _∙_, ap}
+use mathlib.Core.Path.{_≡_}
 use borrow.Author.Needs.{needs}
-use Rattle.tariff.specs.declared.Found.{Found}
-use Rattle.tariff.specs.Reply.{Verdict, shown, clear}
+use Rattle.tariff.specs.Reply.{clear}
 use Rattle.tariff.specs.Hour.{form, range, order, curves}
+use Rattle.engine.proofs.Calls.{told}
 use Rattle.engine.proofs.checks.block_fault.Statement.{statement}
 use Rattle.engine.proofs.checks.block_fault.Tie as tie
-
--- a check v, where its call found s
-told : {r s : Found} {v : Verdict} → shown r ≡ v → r ≡ s → v ≡ shown s
-told e q = sym e ∙ ap shown q
 
 form-fault-requires : tie.Need-form-fault-requires
 form-fault-requires c κs = search needs
