@@ -185,7 +185,7 @@ add-t35 : tie.Need-add-t35 Inv-scan μ-scan Inv-hour μ-hour
 add-t35 c = let u = in-array (atInterval (atTask (c .before .before .before .before .before .before))) in omega arith
 
 scan-holds : tie.Need-scan-holds Inv-scan μ-scan Inv-hour μ-hour
-scan-holds c = 
+scan-holds c =
     let M = c .before .before .before .before .before .before in
     scan-begins (theCurve M) (theLow M) (theHigh M) (theSeconds M)
     (stretch M (sym (c .before .before .before .before .below .ensures) ∙ c .before .before .before .if2 .taken) (sym (c .before .below2 .ensures) ∙ c .if3 .left))
@@ -212,11 +212,10 @@ below-requires-4 : tie.Need-below-requires-4 Inv-scan μ-scan Inv-hour μ-hour
 below-requires-4 c κs = tt
 
 cost-plus-requires : tie.Need-cost-plus-requires Inv-scan μ-scan Inv-hour μ-hour
-cost-plus-requires c κs = 
+cost-plus-requires c κs =
     let L = c .before .before .before .before .before .before .before .scan in
     let o = L .inv in
-    let M = c .before .before .before .before .before .before .before .before .before .before .before .before .before .before in
-    (
+    let M = c .before .before .before .before .before .before .before .before .before .before .before .before .before .before in (
       cost-within (theCurve M) (theLow M) (theHigh M) (theSeconds M) (L .x .0) (L .cost .0) (L .j) o,
       o .place,
       o .stretch .highest,
@@ -225,11 +224,10 @@ cost-plus-requires c κs =
     )
 
 cost-plus-requires-2 : tie.Need-cost-plus-requires-2 Inv-scan μ-scan Inv-hour μ-hour
-cost-plus-requires-2 c κs = 
+cost-plus-requires-2 c κs =
     let L = c .before .before .before .before .before .before .before .scan in
     let o = L .inv in
-    let M = c .before .before .before .before .before .before .before .before .before .before .before .before .before .before in
-    (
+    let M = c .before .before .before .before .before .before .before .before .before .before .before .before .before .before in (
       cost-within (theCurve M) (theLow M) (theHigh M) (theSeconds M) (L .x .0) (L .cost .0) (L .j) o,
       o .place,
       o .stretch .fits .ends (L .j) (c .before .before .before .before .before .before .if4 .left),
@@ -244,7 +242,7 @@ scan-less : tie.Need-scan-less Inv-scan μ-scan Inv-hour μ-hour
 scan-less c = let u = c .before .before .before .before .if4 .left in omega arith
 
 scan-again : tie.Need-scan-again Inv-scan μ-scan Inv-hour μ-hour
-scan-again c = 
+scan-again c =
     let L = c .before .before .before .before .before .scan in
     let M = c .before .before .before .before .before .before .before .before .before .before .before .before in
     let more = c .before .before .before .before .if4 .left in
@@ -266,14 +264,12 @@ priced c =
     (λ w.
     let L = w .4 in
     let xe = sym (w .8 .ensures) ∙ w .9 .taken in
-    let eb = sym (w .10 .ensures) ∙ not-true (w .10 .result) (w .11 .taken) in
-    (
+    let eb = sym (w .10 .ensures) ∙ not-true (w .10 .result) (w .11 .taken) in (
       scan-reaches (theCurve M) (theLow M) (theHigh M) (theSeconds M) (L .x .0) (L .cost .0) (L .j) (L .inv) (w .5 .left) (w .12 .result .0) xe eb (w .12 .ensures)
-      ∙ ap (λ (g : Grains). known (g .0)) (sym (w .13)),
+          ∙ ap (λ (g : Grains). known (g .0)) (sym (w .13)),
       rw (w .13) (scan-within (theCurve M) (theLow M) (theHigh M) (theSeconds M) (L .x .0) (L .cost .0) (L .j) (L .inv) (w .5 .left) (w .12 .result .0) xe eb (w .12 .ensures)),
     ))
-    (λ w.
-    (
+    (λ w. (
       cost-nothing (theCurve M) (theLow M) (theHigh M) (theSeconds M) (sym (c .before .below .ensures) ∙ w .0 .left) ∙ ap (λ (g : Grains). known (g .0)) (sym (w .1)),
       rw (w .1) (within-zero 4000000000000000),
     ))
@@ -316,14 +312,14 @@ returns : tie.Need-returns Inv-scan μ-scan Inv-hour μ-hour
 returns c = let h = c .before .before .before .before .before .before .args .h in walk-ends h (c .before .hour .parts) (c .before .hour .i) (c .before .hour .inv (h .hour)) (c .if1 .taken)
 
 returns-2 : tie.Need-returns-2 Inv-scan μ-scan Inv-hour μ-hour
-returns-2 c = 
+returns-2 c =
     let I = c .before .before .before .before in
     walk-derated (theHour I) (I .before .hour .parts) (theIndex I) (walking I) (in-hour I)
     (task-outcome (theHour I) (interval (theHour I) (theIndex I))
     ∙ ap (ofPrepared (theHour I .da) (theHour I .rt)) (sym (c .before .before .prepare .ensures) ∙ c .enum-told .given .1))
 
 returns-3 : tie.Need-returns-3 Inv-scan μ-scan Inv-hour μ-hour
-returns-3 c = 
+returns-3 c =
     let M = c .before .before .before .before .before .before in
     let I = atInterval (atTask M) in
     walk-unreached (theHour I) (I .before .hour .parts) (theIndex I) (walking I) (in-hour I)
@@ -332,7 +328,7 @@ returns-3 c =
     (cost-before (theCurve M) (theLow M) (theHigh M) (theSeconds M) (sym (c .before .before .before .before .below .ensures) ∙ c .before .before .before .if2 .taken) (sym (c .before .below2 .ensures) ∙ c .if3 .taken)))
 
 returns-4 : tie.Need-returns-4 Inv-scan μ-scan Inv-hour μ-hour
-returns-4 c = 
+returns-4 c =
     let M = c .before .before .before .before .before .before .before .before in
     let I = atInterval (atTask M) in
     let L = c .before .scan in
