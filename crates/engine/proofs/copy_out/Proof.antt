@@ -6,7 +6,7 @@ use native.Mathlib.Omega.{arith}
 use borrow.Author.Needs.{needs}
 use lib.ListN.{length, take, drop, length-set}
 use Rattle.exact.proofs.Bits.{held}
-use Rattle.engine.specs.Walk.{grainsAt, raws}
+use Rattle.intervals.specs.Walk.{grainsAt, raws}
 use Rattle.engine.proofs.Paid.{row-more}
 use Rattle.engine.proofs.copy_out.Statement.{statement}
 use Rattle.engine.proofs.copy_out.Tie as tie

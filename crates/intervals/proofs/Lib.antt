@@ -1,0 +1,10 @@
+-- Laws that the proofs of the crate's functions cite.
+pub mod Fives
+pub mod Cuts
+pub mod Derates
+pub mod Schedules
+pub mod Tasks
+pub mod Scans
+pub mod Walks
+pub mod Fits
+pub mod Works

@@ -1,0 +1,41 @@
+-- What the walk over an hour's intervals finds and writes.
+use mathlib.Core.Path.{_≡_}
+use mathlib.Core.Bool.{Bool, true, false}
+use mathlib.Core.List.{List, map}
+use Prim.Native.Nat.{ℕ, _<_, _≤_}
+use lib.ListN.{length, getD}
+use lib.IntN.{ℤ, pos}
+use Rattle.exact.specs.Whole.{Within}
+use Rattle.tariff.specs.declared.Grains.{Grains}
+use Rattle.tariff.specs.declared.Hour.{Hour}
+use Rattle.tariff.specs.declared.Expected.{Expected}
+use Rattle.tariff.specs.Units.{grains}
+use Rattle.tariff.specs.Reply.{shown, clear, _then_}
+use Rattle.tariff.specs.Hour.{blockFault, intervals, contribution, hourSum}
+use Rattle.intervals.specs.declared.steps.Walked.{Walked}
+use Rattle.intervals.specs.declared.Contributions.{Contributions}
+
+abbrev pub grainsAt : List Grains → ℕ → ℤ
+grainsAt l i = getD l i (grains (pos 0)) .0
+
+abbrev pub raws : List Grains → List ℤ
+raws l = map (λ (g : Grains). g .0) l
+
+-- each entry keeps within what an interval can contribute
+pub record Bounded (l : List Grains) : Type 0 where
+  pub each : (i : ℕ) → Within 100000000000000000 (grainsAt l i)
+
+-- the first fault of checks 6 and 7; where there is none, the contributions stand in front
+pub record WalkedTo (h : Hour) (isExcluded : Bool) (r : Walked) : Type 0 where
+  pub first : shown (r .found) ≡ intervals h isExcluded
+  pub long : length (r .parts) ≡ 30
+  pub bounded : Bounded (r .parts)
+  pub written : shown (r .found) ≡ clear → (i : ℕ) → i < h .n → grainsAt (r .parts) i ≡ contribution h isExcluded i
+
+-- what checks 1 to 7 find; where they find nothing, the contributions stand in front, and their sum
+pub record ContributionsOf (h : Hour) (isExcluded : Bool) (expected : Expected) (r : Contributions) : Type 0 where
+  pub found : shown (r .found) ≡ (blockFault h expected then intervals h isExcluded)
+  pub long : length (r .parts) ≡ 30
+  pub few : shown (r .found) ≡ clear → h .n ≤ 30
+  pub written : shown (r .found) ≡ clear → (i : ℕ) → i < h .n → grainsAt (r .parts) i ≡ contribution h isExcluded i
+  pub sum : shown (r .found) ≡ clear → r .sum .0 ≡ hourSum h isExcluded
