@@ -1,6 +1,6 @@
 // Comparisons and choices of the units, for any values: each answers as its definition says and asks nothing of its caller.
 ghost use mathlib.Core.Path.{_≡_};
-ghost use lib.IntN.{ℤ, pos};
+ghost use lib.IntN.{ℤ, pos, natAbs};
 ghost use lib.Signed.{ltZ};
 ghost use Rattle.exact.specs.Whole.{minℤ, maxℤ, eqZ};
 ghost use Rattle.tariff.specs.Units.{centsOf};
@@ -60,5 +60,17 @@ pub fn cents_of(g: Grains) -> Cents
         Cents(0)
     } else {
         Cents(g.0 / 3600000)
+    }
+}
+
+// A number without its sign, as it is printed.
+pub fn magnitude(v: i64) -> u64
+    ensures { λ r. ⌜ r ≡ natAbs v ⌝ }
+{
+    if v < 0 {
+        let less = -(v + 1);
+        (less as u64) + 1
+    } else {
+        v as u64
     }
 }

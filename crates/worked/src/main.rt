@@ -1,6 +1,7 @@
 // Document 01's worked hour, and the same hour with a day-ahead curve that ends one kilowatt short, settled and printed.
 use libc::STDOUT_FILENO;
 use tariff::Answer;
+use tariff::Cents;
 use tariff::Check;
 use tariff::Curve;
 use tariff::DayAhead;
@@ -16,11 +17,8 @@ use tariff::Uol;
 fn print_number(v: i64) {
     if v < 0 {
         io::write_all(STDOUT_FILENO, b"-");
-        let less = -(v + 1);
-        io::print_decimal(STDOUT_FILENO, (less as u64) + 1);
-    } else {
-        io::print_decimal(STDOUT_FILENO, v as u64);
     }
+    io::print_decimal(STDOUT_FILENO, units::magnitude(v));
 }
 
 // Two steps from 0: the minimum generation block, and the rest up to `end`.
@@ -125,24 +123,31 @@ fn print_refusal(check: Check) {
     io::write_all(STDOUT_FILENO, b"\n");
 }
 
+fn print_interval(i: u64, grains: i64) {
+    io::write_all(STDOUT_FILENO, b"i=");
+    io::print_decimal(STDOUT_FILENO, i);
+    io::write_all(STDOUT_FILENO, b" grains=");
+    print_number(grains);
+    io::write_all(STDOUT_FILENO, b"\n");
+}
+
+fn print_pay(cents: Cents) {
+    io::write_all(STDOUT_FILENO, b"hour=14 pay=");
+    print_number(cents.0);
+    io::write_all(STDOUT_FILENO, b"\n");
+}
+
 fn print_hour(h: Hour) {
     let mut row = [0i64; 4];
     let answer = engine::settle(h, false, Expected::Any, &mut row);
     match answer {
         Answer::Refused(check) => print_refusal(check),
         Answer::Paid(_, cents) => {
-            let mut i: usize = 0;
-            while i < 4 {
-                io::write_all(STDOUT_FILENO, b"i=");
-                io::print_decimal(STDOUT_FILENO, (i as u64) + 1);
-                io::write_all(STDOUT_FILENO, b" grains=");
-                print_number(row[i]);
-                io::write_all(STDOUT_FILENO, b"\n");
-                i += 1;
-            }
-            io::write_all(STDOUT_FILENO, b"hour=14 pay=");
-            print_number(cents.0);
-            io::write_all(STDOUT_FILENO, b"\n");
+            print_interval(1, row[0]);
+            print_interval(2, row[1]);
+            print_interval(3, row[2]);
+            print_interval(4, row[3]);
+            print_pay(cents);
         }
     }
 }
