@@ -8,3 +8,4 @@ pub mod Scans
 pub mod Walks
 pub mod Fits
 pub mod Works
+pub mod Unique
