@@ -1,4 +1,4 @@
--- Laws that the proofs of the crate's functions cite.
+-- Laws that the proofs of the crate's functions cite; `Unique` has the law of the public one.
 pub mod Fives
 pub mod Cuts
 pub mod Derates

@@ -1,13 +1,12 @@
 -- No two different replies satisfy the contract of the public function.
-use mathlib.Core.Path.{_≡_, refl, sym, ap, _∙_}
+use mathlib.Core.Path.{_≡_, refl, ap, _∙_}
 use mathlib.Core.Bool.{Bool}
-use Prim.Native.Nat.{ℕ, _<_, _≤_}
+use Prim.Native.Nat.{ℕ, _<_}
 use native.Mathlib.Decide.{decLt}
 use native.Mathlib.Omega.{arith}
 use lib.IntN.{pos}
 use lib.Seq.{ext-getD}
 use Rattle.exact.proofs.Unique.{one, OneReply}
-use Rattle.tariff.specs.declared.Check.{Check}
 use Rattle.tariff.specs.declared.Found.{Found}
 use Rattle.tariff.specs.declared.Found.the-variants.{Nothing, Fault}
 use Rattle.tariff.specs.declared.Hour.{Hour}
@@ -19,7 +18,8 @@ use Rattle.intervals.specs.declared.Contributions.{Contributions}
 use Rattle.intervals.specs.Walk.{grainsAt, ContributionsOf}
 use Rattle.intervals.proofs.work_out.Reads as work-out
 
-module _ (h : Hour) (isExcluded : Bool) (expected : Expected) (r s : Contributions) (of : ContributionsOf h isExcluded expected r) (like : ContributionsOf h isExcluded expected s) where
+module _ (h : Hour) (isExcluded : Bool) (expected : Expected) (r s : Contributions)
+    (of : ContributionsOf h isExcluded expected r) (like : ContributionsOf h isExcluded expected s) where
   same-found : r .found ≡ s .found
   same-found = one-finding (r .found) (s .found) _ (of .found) (like .found)
 

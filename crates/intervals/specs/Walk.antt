@@ -1,6 +1,6 @@
 -- What the walk over an hour's intervals finds and writes.
 use mathlib.Core.Path.{_≡_}
-use mathlib.Core.Bool.{Bool, true, false}
+use mathlib.Core.Bool.{Bool}
 use mathlib.Core.List.{List, map}
 use Prim.Native.Nat.{ℕ, _<_, _≤_}
 use lib.ListN.{length, getD, replicate}
@@ -40,7 +40,8 @@ pub record WalkedTo (h : Hour) (isExcluded : Bool) (r : Walked) : Type 0 where
 abbrev pub refusedBy : Found → Contributions
 refusedBy found = record { found = found; parts = replicate 30 (grains (pos 0)); sum = grains (pos 0) }
 
--- what checks 1 to 7 find; where they find nothing, the contributions stand in front, 0 behind them, and their sum
+-- what checks 1 to 7 find; where they find nothing, the contributions stand in front, 0 behind them, and their sum; a refused hour
+-- comes to nothing
 pub record ContributionsOf (h : Hour) (isExcluded : Bool) (expected : Expected) (r : Contributions) : Type 0 where
   pub found : shown (r .found) ≡ (blockFault h expected then intervals h isExcluded)
   pub long : length (r .parts) ≡ 30
