@@ -5,3 +5,4 @@ pub mod Range
 pub mod Bits
 pub mod Sums
 pub mod Calls
+pub mod Unique

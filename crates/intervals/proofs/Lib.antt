@@ -1,4 +1,4 @@
--- Laws that the proofs of the crate's functions cite.
+-- Laws that the proofs of the crate's functions cite; `Unique` has the law of the public one.
 pub mod Fives
 pub mod Cuts
 pub mod Derates
@@ -8,3 +8,4 @@ pub mod Scans
 pub mod Walks
 pub mod Fits
 pub mod Works
+pub mod Unique

@@ -26,13 +26,14 @@ use Rattle.intervals.specs.Walk.{grainsAt, Bounded, WalkedTo}
 abbrev pub checkAt : Hour → ℕ → Verdict
 checkAt h i = faultAt i (outcomeAt h false i)
 
--- the intervals before i are clear, and their contributions stand in front
+-- the intervals before i are clear, their contributions stand in front, and 0 behind them
 pub record Walking (h : Hour) (parts : List Grains) (i : ℕ) : Type 0 where
   pub within : i ≤ h .n
   pub long : length parts ≡ 30
   pub bounded : Bounded parts
   pub cleared : firstOf (checkAt h) i ≡ clear
   pub written : (k : ℕ) → k < i → grainsAt parts k ≡ contribution h false k
+  pub rest : (k : ℕ) → i ≤ k → grainsAt parts k ≡ pos 0
 
 zeros-at : (n i : ℕ) → grainsAt (replicate n (grains (pos 0))) i ≡ pos 0
 zeros-at zero i = refl
@@ -51,6 +52,7 @@ walk-begins h =
       bounded = zeros-bounded;
       cleared = refl;
       written = λ k u. absurd (omega arith);
+      rest = λ k u. zeros-at 30 k;
     }
 
 abbrev pub walked : (found : Found) → List Grains → Walked
@@ -65,6 +67,7 @@ walk-excluded h =
       long = refl;
       bounded = zeros-bounded;
       written = λ _ i u. zeros-at 30 i;
+      rest = λ _ i u. zeros-at 30 i;
     }
 
 -- no fault is found where one is shown
@@ -81,6 +84,7 @@ module _ (h : Hour) (parts : List Grains) (i : ℕ) (w : Walking h parts i) wher
         long = w .long;
         bounded = w .bounded;
         written = λ _ k v. w .written k (omega arith);
+        rest = λ _ k v. w .rest k (omega arith);
       }
 
   module _ (more : i < h .n) where
@@ -97,6 +101,7 @@ module _ (h : Hour) (parts : List Grains) (i : ℕ) (w : Walking h parts i) wher
           long = w .long;
           bounded = w .bounded;
           written = λ q. absurd (no-clear 6 (i + 1) q);
+          rest = λ q. absurd (no-clear 6 (i + 1) q);
         }
 
     pub walk-unreached : outcome h (interval h i) ≡ unreached → WalkedTo h false (walked (Fault (Reach (i + 1))) parts)
@@ -107,6 +112,7 @@ module _ (h : Hour) (parts : List Grains) (i : ℕ) (w : Walking h parts i) wher
           long = w .long;
           bounded = w .bounded;
           written = λ q. absurd (no-clear 7 (i + 1) q);
+          rest = λ q. absurd (no-clear 7 (i + 1) q);
         }
 
     module _ (g : Grains) (room : i < length parts) where
@@ -134,6 +140,9 @@ module _ (h : Hour) (parts : List Grains) (i : ℕ) (w : Walking h parts i) wher
           go (yes q) = rw q (here ∙ written-here)
           go (no u) = other k u ∙ w .written k (omega arith)
 
+      still-zero : (k : ℕ) → i + 1 ≤ k → grainsAt (set parts i g) k ≡ pos 0
+      still-zero k v = other k (λ e. omega arith) ∙ w .rest k (omega arith)
+
       pub walk-goes-on : outcome h (interval h i) ≡ gives (g .0) → Within 100000000000000000 (g .0) → Walking h (set parts i g) (i + 1)
       unfolding firstOf outcomeAt
       walk-goes-on e b =
@@ -143,4 +152,5 @@ module _ (h : Hour) (parts : List Grains) (i : ℕ) (w : Walking h parts i) wher
             bounded = still-bounded b;
             cleared = rw (add-one, w .cleared, e);
             written = still-written e;
+            rest = still-zero;
           }

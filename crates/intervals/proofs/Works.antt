@@ -1,21 +1,22 @@
 -- What checks 1 to 7 find and the intervals come to, by the way that the work ends.
 use mathlib.Core.Path.{_≡_, refl, sym, ap, _∙_}
 use mathlib.Core.Bool.{Bool}
-use Prim.Native.Nat.{ℕ, _<_, _≤_}
+use Prim.Native.Nat.{ℕ, _≤_}
 use native.Mathlib.Omega.{arith}
-use lib.ListN.{length}
 use Rattle.exact.specs.Whole.{sumTo}
 use Rattle.exact.proofs.Sums.{sum-same}
 use Rattle.tariff.specs.declared.Check.{Check}
 use Rattle.tariff.specs.declared.Found.the-variants.{Nothing, Fault}
+use Rattle.tariff.specs.declared.Grains.{Grains}
 use Rattle.tariff.specs.declared.Hour.{Hour}
 use Rattle.tariff.specs.declared.Expected.{Expected}
-use Rattle.tariff.specs.Reply.{shown, clear, fault, _then_, numberOf, placeOf}
+use Rattle.tariff.specs.Reply.{shown, clear, fault, _then_}
 use Rattle.tariff.specs.Hour.{form, range, order, curves, secondsSum, blockFault, intervals, contribution, hourSum}
 use Rattle.tariff.proofs.Checks.{then-clear}
 use Rattle.tariff.proofs.Ranges.{form-says}
+use Rattle.intervals.specs.declared.steps.Walked.{Walked}
 use Rattle.intervals.specs.declared.Contributions.{Contributions}
-use Rattle.intervals.specs.Walk.{grainsAt, ContributionsOf}
+use Rattle.intervals.specs.Walk.{grainsAt, WalkedTo, refusedBy, ContributionsOf}
 
 -- without faults 1 to 5 the counts and the numbers are in their ranges
 pub no-fault-says : (h : Hour) (expected : Expected) → blockFault h expected ≡ clear → (form h ≡ clear) × (range h ≡ clear) × (h .n ≤ 30)
@@ -24,41 +25,45 @@ no-fault-says h expected e =
     let p = then-clear (form h) (range h then later) e in
     (p .0, then-clear (range h) later (p .1) .0, form-says h (p .0) .2)
 
-module _ (h : Hour) (isExcluded : Bool) (expected : Expected) (r : Contributions) where
-  refused : (check : Check) → r .found ≡ Fault check → length (r .parts) ≡ 30 → (blockFault h expected then intervals h isExcluded) ≡ shown (Fault check)
-      → ContributionsOf h isExcluded expected r
-  refused check f l e =
-      let never : shown (r .found) ≡ clear → ⊥ =
-      λ q. let z : fault (numberOf check) (placeOf check) ≡ clear = sym (ap shown f) ∙ q in no z in
-      record {
-        found = ap shown f ∙ sym e;
-        long = l;
-        few = λ q. absurd (never q);
-        written = λ q. absurd (never q);
-        sum = λ q. absurd (never q);
-      }
-    where
-      no : {a b : ℕ} → fault a b ≡ clear → ⊥
-      no e = let z : _≡_ {A = ℕ} 0 1 = cc in omega arith
+no : {number place : ℕ} → fault number place ≡ clear → ⊥
+no e = let z : _≡_ {A = ℕ} 0 1 = cc in omega arith
 
-  pub refused-by-block : (check : Check) → r .found ≡ Fault check → length (r .parts) ≡ 30 → blockFault h expected ≡ shown (Fault check)
+module _ (h : Hour) (isExcluded : Bool) (expected : Expected) where
+  refused : (r : Contributions) (check : Check) → r ≡ refusedBy (Fault check) → (blockFault h expected then intervals h isExcluded) ≡ shown (Fault check)
       → ContributionsOf h isExcluded expected r
-  refused-by-block check f l b = refused check f l (rw b)
+  refused r check f e =
+      rw f
+      record {
+        found = sym e;
+        long = refl;
+        few = λ q. absurd (no q);
+        written = λ q. absurd (no q);
+        rest = λ q. absurd (no q);
+        sum = λ q. absurd (no q);
+        refused = λ other q. ap refusedBy q;
+      }
+
+  pub refused-by-block : (r : Contributions) (check : Check) → r ≡ refusedBy (Fault check) → blockFault h expected ≡ shown (Fault check)
+      → ContributionsOf h isExcluded expected r
+  refused-by-block r check f b = refused r check f (rw b)
 
   module _ (b : blockFault h expected ≡ clear) where
-    pub refused-by-walk : (check : Check) → r .found ≡ Fault check → length (r .parts) ≡ 30 → intervals h isExcluded ≡ shown (Fault check)
+    pub refused-by-walk : (r : Contributions) (check : Check) → r ≡ refusedBy (Fault check) → intervals h isExcluded ≡ shown (Fault check)
         → ContributionsOf h isExcluded expected r
-    refused-by-walk check f l w = refused check f l (rw (b, w))
+    refused-by-walk r check f w = refused r check f (rw (b, w))
 
-    pub worked-out : r .found ≡ Nothing → length (r .parts) ≡ 30 → intervals h isExcluded ≡ clear
-        → ((i : ℕ) → i < h .n → grainsAt (r .parts) i ≡ contribution h isExcluded i) → r .sum .0 ≡ sumTo (grainsAt (r .parts)) (h .n)
-        → ContributionsOf h isExcluded expected r
+    -- the walk found nothing: its parts, and their sum
+    pub worked-out : (w : Walked) → WalkedTo h isExcluded w → w .found ≡ Nothing → (sum : Grains) → sum .0 ≡ sumTo (grainsAt (w .parts)) (h .n)
+        → ContributionsOf h isExcluded expected (record { found = Nothing; parts = w .parts; sum = sum })
     unfolding hourSum
-    worked-out f l w written s =
+    worked-out w of f sum s =
+        let clean : shown (w .found) ≡ clear = ap shown f in
         record {
-          found = rw (f, b, w);
-          long = l;
+          found = rw (b, ← of .first, f);
+          long = of .long;
           few = λ q. no-fault-says h expected b .2;
-          written = λ q. written;
-          sum = λ q. s ∙ sum-same (grainsAt (r .parts)) (contribution h isExcluded) (h .n) written;
+          written = λ q. of .written clean;
+          rest = λ q. of .rest clean;
+          sum = λ q. s ∙ sum-same (grainsAt (w .parts)) (contribution h isExcluded) (h .n) (of .written clean);
+          refused = λ check q. absurd (no (sym (ap shown q)));
         }

@@ -1,12 +1,11 @@
 // The contributions of an hour's intervals, behind checks 1 to 7: everything of the hour call but the lent row.
 ghost use mathlib.Core.Path.{_≡_};
 ghost use Prim.Native.Nat.{ℕ, _≤_};
-ghost use lib.ListN.{length};
 ghost use lib.IntN.{ℤ};
 ghost use Rattle.exact.specs.Whole.{sumTo};
 ghost use Rattle.tariff.specs.Reply.{clear};
 ghost use Rattle.tariff.specs.Hour.{form, range};
-ghost use Rattle.intervals.specs.Walk.{grainsAt, WalkedTo, Bounded, ContributionsOf};
+ghost use Rattle.intervals.specs.Walk.{grainsAt, WalkedTo, Bounded, refusedBy, ContributionsOf};
 use steps::Walked;
 use tariff::Expected;
 use tariff::Found;
@@ -58,7 +57,7 @@ fn walk_unless(h: Hour, excluded: bool) -> Walked
 
 // What a refused hour comes to: nothing.
 fn refused_by(found: Found) -> Contributions
-    ensures { λ r. ⌜ (r .found ≡ found) × (length (r .parts) ≡ 30) ⌝ }
+    ensures { λ r. ⌜ r ≡ refusedBy found ⌝ }
 {
     Contributions {
         found,

@@ -1,8 +1,7 @@
 -- `work_out` finds the first fault of checks 1 to 7, and where there is none has the contributions and their sum.
-use mathlib.Core.Path.{_≡_, refl, ap}
+use mathlib.Core.Path.{_≡_}
 use borrow.Author.Needs.{needs}
-use Rattle.tariff.specs.declared.Found.the-variants.{Nothing}
-use Rattle.tariff.specs.Reply.{shown, clear}
+use Rattle.tariff.specs.Reply.{clear}
 use Rattle.tariff.specs.Hour.{blockFault}
 use Rattle.tariff.proofs.Answers.{found-told}
 use Rattle.intervals.proofs.Works.{no-fault-says, refused-by-block, refused-by-walk, worked-out}
@@ -21,7 +20,7 @@ refused-by-requires c κs = search needs
 returns : tie.Need-returns
 returns c =
     let s = c .before .before .before .before .before .args in
-    refused-by-block (s .h) (s .excluded) (s .expected) (c .refused-by .result) _ (c .refused-by .ensures .0) (c .refused-by .ensures .1)
+    refused-by-block (s .h) (s .excluded) (s .expected) (c .refused-by .result) _ (c .refused-by .ensures)
     (found-told (c .before .before .before .before .block-fault .ensures) (c .before .before .fault .given .1))
 
 enum-told : tie.Need-enum-told
@@ -46,7 +45,7 @@ returns-2 : tie.Need-returns-2
 returns-2 c =
     let e = c .before .before .before .before .before in
     let s = e .before .before .before .args in
-    refused-by-walk (s .h) (s .excluded) (s .expected) (c .refused-by2 .result) (sound e) _ (c .refused-by2 .ensures .0) (c .refused-by2 .ensures .1)
+    refused-by-walk (s .h) (s .excluded) (s .expected) (sound e) (c .refused-by2 .result) _ (c .refused-by2 .ensures)
     (found-told (c .before .before .before .before .walk-unless .ensures .first) (c .before .before .found .given .1))
 
 enum-told-2 : tie.Need-enum-told-2
@@ -62,9 +61,7 @@ returns-3 c =
     let e = c .before .before .before .before .before in
     let s = e .before .before .before .args in
     let w = c .before .before .before .before .walk-unless in
-    let clean = c .before .before .enum-told2 .given .1 in
-    worked-out (s .h) (s .excluded) (s .expected) (record { found = Nothing; parts = w .result .parts; sum = c .sum-of .result }) (sound e) refl (w .ensures .long)
-    (found-told (w .ensures .first) clean) (w .ensures .written (ap shown clean)) (c .sum-of .ensures)
+    worked-out (s .h) (s .excluded) (s .expected) (sound e) (w .result) (w .ensures) (c .before .before .enum-told2 .given .1) (c .sum-of .result) (c .sum-of .ensures)
 
 pub work-out-spec : {M : Type 1} → statement M
 work-out-spec =
