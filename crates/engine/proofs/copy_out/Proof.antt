@@ -3,10 +3,9 @@ use mathlib.Core.Path.{_≡_, refl}
 use mathlib.Core.List.{_++_}
 use Prim.Native.Nat.{_+_, _-_, _≤_}
 use native.Mathlib.Omega.{arith}
-use borrow.Author.Needs.{needs}
 use lib.ListN.{length, take, drop, length-set}
-use Rattle.exact.proofs.Bits.{held}
-use Rattle.intervals.specs.Walk.{grainsAt, raws}
+use Rattle.exact.proofs.Calls.{handed}
+use Rattle.intervals.specs.Walk.{raws}
 use Rattle.engine.proofs.Paid.{row-more}
 use Rattle.engine.proofs.copy_out.Statement.{statement}
 use Rattle.engine.proofs.copy_out.Tie as tie
@@ -42,11 +41,10 @@ loop-again : tie.Need-loop-again Inv-loop μ-loop
 loop-again c =
     let A = c .before .before .before .before .args in
     let L = c .before .before .before .loop in
-    let long : length (A .t1) ≡ 30 = c .before .before .before .before .good .0 .1 .0 .1 in
-    let back : held (grainsAt (A .t1) (L .i)) ≡ grainsAt (A .t1) (L .i) = search needs in (
+    let long : length (A .t1) ≡ 30 = c .before .before .before .before .good .0 .1 .0 .1 in (
       omega arith,
       simp length-set (omega arith),
-      rw (back, L .inv .2) (row-more (A .t1) (A .row .now) (L .i) (omega arith) (omega arith)),
+      rw (handed _ (c .struct-told .given .0 .1), L .inv .2) (row-more (A .t1) (A .row .now) (L .i) (omega arith) (omega arith)),
     )
 
 same-length : tie.Need-same-length Inv-loop μ-loop

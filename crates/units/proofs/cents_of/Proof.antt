@@ -13,7 +13,7 @@ div-t4 : tie.Need-div-t4
 div-t4 c =
     let f = c .before .before .before .struct-told .given .0 .1 in
     let a = c .before .before .before .before .before .args .g .0 in
-    (lit< tt, quot-fits a 3600000 f (lt-is a (pos 0) f (lit< tt) false (c .before .before .if1 .left)))
+    (lit< tt, quot-fits a _ f (lt-is a (pos 0) f (lit< tt) false (c .before .before .if1 .left)))
 
 returns : tie.Need-returns
 unfolding centsOf
