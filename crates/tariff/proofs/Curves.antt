@@ -1,5 +1,4 @@
--- Laws of a curve by kilowatt: an integral reads the prices of the kilowatts between its ends, has an amount when each has a price,
--- and changes its sign with its direction.
+-- Laws of a curve by kilowatt: an integral reads the prices between its ends, has an amount when all are there, and turns its sign with its way.
 use mathlib.Core.Path.{_≡_, refl, sym, _∙_, ap}
 use mathlib.Core.Bool.{true}
 use Prim.Native.Nat.{ℕ, zero, suc, _<_}

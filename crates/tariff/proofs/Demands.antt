@@ -1,5 +1,4 @@
--- The theorems of the definitions: demand 3, what an hour pays, the lent row, the one answer to a reply, the price of a kilowatt, the
--- derate's shares.
+-- The theorems of the definitions: demand 3, what an hour pays, the lent row, the one answer to a reply, the curve, the derate's shares.
 use mathlib.Core.Path.{_≡_}
 use mathlib.Core.Bool.{Bool, true}
 use mathlib.Core.List.{List}
@@ -118,7 +117,7 @@ one-reply = answer-one
 pub one-finding : (a b : Found) (v : Verdict) → shown a ≡ v → shown b ≡ v → a ≡ b
 one-finding = finding-one
 
--- ---- the price of a kilowatt
+-- ---- the curve: the price of a kilowatt, and the integral
 
 -- Kilowatt k has a price when start ≤ k < last end.
 pub priced-between :

@@ -1,5 +1,4 @@
--- The shares of a reduction: what is left over goes to the largest remainders. Where the reduction is no larger than the room for it
--- they sum to it, and none exceeds its potential.
+-- The shares of a reduction: who is served of what is left over; and within the room they sum to it, and none exceeds its potential.
 use mathlib.Core.Path.{_≡_, refl, ap}
 use mathlib.Core.Logic.{_≢_}
 use mathlib.Core.Bool.{Bool, true, false, _||_}
