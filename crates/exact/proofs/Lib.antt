@@ -4,3 +4,5 @@ pub mod Order
 pub mod Range
 pub mod Bits
 pub mod Sums
+pub mod Calls
+pub mod Unique

@@ -48,3 +48,11 @@ max-of a b h = omega (arithℤ, max-parts a b)
 
 pub max-of′ : (a b : ℤ) → ltZ a b ≡ false → maxℤ a b ≡ a
 max-of′ a b h = omega (arithℤ, max-parts a b)
+
+-- ---- the test `b ≤ a` where the code tests `a < b`
+
+pub no-le : (a b : ℤ) → ltZ a b ≡ true → leZ b a ≡ false
+no-le a b h = omega arithℤ
+
+pub le-unless : (a b : ℤ) → ltZ a b ≡ false → leZ b a ≡ true
+le-unless a b h = omega arithℤ

@@ -61,3 +61,7 @@ answer-one a b r p q = sym (answer-back a) ∙ ap answerOf (p ∙ sym q) ∙ ans
 
 pub finding-one : (a b : Found) (v : Verdict) → shown a ≡ v → shown b ≡ v → a ≡ b
 finding-one a b v p q = sym (finding-back a) ∙ ap findingOf (p ∙ sym q) ∙ finding-back b
+
+-- a check v, where its call found s
+pub found-told : {r s : Found} {v : Verdict} → shown r ≡ v → r ≡ s → v ≡ shown s
+found-told e q = sym e ∙ ap shown q

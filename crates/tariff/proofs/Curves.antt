@@ -1,10 +1,10 @@
--- Laws of a curve by kilowatt: an integral reads the prices of the kilowatts between its ends, and has an amount when each has a price.
-use mathlib.Core.Path.{_≡_, refl, _∙_, ap}
+-- Laws of a curve by kilowatt: an integral reads the prices between its ends, has an amount when all are there, and turns its sign with its way.
+use mathlib.Core.Path.{_≡_, refl, sym, _∙_, ap}
 use mathlib.Core.Bool.{true}
 use Prim.Native.Nat.{ℕ, zero, suc, _<_}
 use native.Mathlib.Decide.{decLt}
 use native.Mathlib.Omega.{arith}
-use lib.IntN.{ℤ, pos, negℤ, _+ℤ_}
+use lib.IntN.{ℤ, pos, negℤ, _+ℤ_, negℤ-negℤ}
 use lib.Signed.{leZ}
 use Rattle.exact.specs.Choice.{if_then_else_}
 use Rattle.exact.specs.Whole.{span}
@@ -27,7 +27,15 @@ pub change-none : (f : ℤ → ℤ) (x : Amount) → change f x ≡ none → x �
 change-none f (known x) e = absurd (let z : _≡_ {A = ℕ} 0 1 = cc in omega arith)
 change-none f none e = refl
 
+neg-neg : (x : Amount) → change negℤ (change negℤ x) ≡ x
+neg-neg (known x) = ap known (negℤ-negℤ x)
+neg-neg none = refl
+
 -- ---- the sum of m kilowatts from a
+
+pub sum-nothing : (f : ℤ → Amount) (a : ℤ) (m : ℕ) → m ≡ 0 → sumUp f a m ≡ known (pos 0)
+unfolding sumUp
+sum-nothing f a m e = rw e
 
 pub sum-up-same : (f g : ℤ → Amount) (a : ℤ) (m : ℕ) → ((i : ℕ) → i < m → f (a +ℤ pos i) ≡ g (a +ℤ pos i)) → sumUp f a m ≡ sumUp g a m
 unfolding sumUp
@@ -80,6 +88,23 @@ pub between-at : (a b k : ℤ) → leZ a b ≡ true → Between a b k → a +ℤ
 between-at a b k h w = omega (arithℤ, add-parts a (pos (span a k)), span-parts a k, min-parts a b)
 
 -- ---- the integral
+
+-- the way back over a stretch
+back : (c : Curve) (a b : ℤ) → leZ a b ≡ true → integral c b a ≡ change negℤ (integral c a b)
+unfolding integral
+back c a b e =
+    rw e
+    (by-test (leZ b a)
+    (λ t. (if t then sumUp (quote c) b (span b a) else change negℤ (sumUp (quote c) a (span a b))) ≡ change negℤ (sumUp (quote c) a (span a b)))
+    (λ h. rw (sum-nothing (quote c) b (span b a) (omega (arithℤ, span-parts b a)), sum-nothing (quote c) a (span a b) (omega (arithℤ, span-parts a b))))
+    (λ h. refl))
+
+pub integral-turned : (c : Curve) (a b : ℤ) → integral c a b ≡ change negℤ (integral c b a)
+integral-turned c a b =
+    by-test (leZ a b)
+    (λ t. integral c a b ≡ change negℤ (integral c b a))
+    (λ e. sym (neg-neg (integral c a b)) ∙ ap (change negℤ) (sym (back c a b e)))
+    (λ e. back c b a (omega arithℤ))
 
 sum-between : (c d : Curve) (a b : ℤ) → ((k : ℤ) → Between a b k → quote c k ≡ quote d k) → sumUp (quote c) a (span a b) ≡ sumUp (quote d) a (span a b)
 sum-between c d a b h = sum-up-same (quote c) (quote d) a (span a b) (λ i u. h (a +ℤ pos i) (between-up a b i u))

@@ -1,22 +1,31 @@
--- The theorems of the definitions: demand 3, the lent row, the one answer to a reply, and the price of a kilowatt.
+-- The theorems of the definitions: demand 3, what an hour pays, the lent row, the one answer to a reply, the curve, the derate's shares.
 use mathlib.Core.Path.{_≡_}
 use mathlib.Core.Bool.{Bool, true}
 use mathlib.Core.List.{List}
 use mathlib.Core.Logic.{_↔_}
 use Prim.Native.Nat.{ℕ, _+_, _-_, _<_, _≤_}
 use lib.ListN.{length, getD}
-use lib.IntN.{ℤ, pos}
+use lib.IntN.{ℤ, pos, negℤ}
 use lib.Signed.{_≤ℤ_, _<ℤ_}
+use Rattle.exact.specs.Whole.{sumTo}
 use Rattle.tariff.specs.declared.Curve.{Curve}
+use Rattle.tariff.specs.declared.DayAhead.{DayAhead}
+use Rattle.tariff.specs.declared.Interval.{Interval}
 use Rattle.tariff.specs.declared.Hour.{Hour}
 use Rattle.tariff.specs.declared.Expected.{Expected}
 use Rattle.tariff.specs.declared.Answer.{Answer}
 use Rattle.tariff.specs.declared.Found.{Found}
+use Rattle.tariff.specs.Units.{centsOf}
 use Rattle.tariff.specs.Sheet.{endOf, priceOf, beginOf, curveKeeps}
-use Rattle.tariff.specs.Curve.{known, quote}
+use Rattle.tariff.specs.Curve.{known, quote, change, integral}
 use Rattle.tariff.specs.Reply.{Reply, paid, refused, Verdict, told, shown}
-use Rattle.tariff.specs.Hour.{contribution, reply, rowAfter}
+use Rattle.tariff.specs.Eligible.{lags}
+use Rattle.tariff.specs.Derate.{ofFive, reduction, potential, floorOf, remainder, share}
+use Rattle.tariff.specs.Hour.{interval, contribution, reply, rowAfter}
 use Rattle.tariff.specs.Demand.{MustPrice, priceIn, FirstUnpriced, Alike, NoFaultTo4, NoFaultTo5, Extends}
+use Rattle.tariff.proofs.Payments.{lagging-nothing, excluded-nothing, paid-once}
+use Rattle.tariff.proofs.Curves.{integral-turned}
+use Rattle.tariff.proofs.Shares.{served-first, shares-sum, share-bound}
 use Rattle.tariff.proofs.Replies.{needed-same, extended-same}
 use Rattle.tariff.proofs.Reach.{reach-when}
 use Rattle.tariff.proofs.Steps.{more-steps, priced-iff, step-price}
@@ -65,6 +74,23 @@ pub more-steps-extend :
     → Extends c d
 more-steps-extend = more-steps
 
+-- ---- what an hour pays
+
+-- An interval with `ae` at or below `lim` contributes 0 for all products: its loss offsets nothing.
+pub lagging-contributes-nothing : (h : Hour) (isExcluded : Bool) (i : ℕ) → lags (interval h i) ≡ true → contribution h isExcluded i ≡ pos 0
+lagging-contributes-nothing = lagging-nothing
+
+-- All contributions of an excluded hour are 0.
+pub excluded-contributes-nothing : (h : Hour) (i : ℕ) → contribution h true i ≡ pos 0
+excluded-contributes-nothing = excluded-nothing
+
+-- S is the sum of contributions; its cents are rounded down, once.
+pub rounded-once :
+    (h : Hour) (isExcluded : Bool) (expected : Expected) (room : ℕ) (sum cents : ℤ)
+    → reply h isExcluded expected room ≡ paid sum cents
+    → (sum ≡ sumTo (contribution h isExcluded) (h .n)) × (cents ≡ centsOf (sumTo (contribution h isExcluded) (h .n)))
+rounded-once = paid-once
+
 -- ---- the lent row
 
 -- Paid: the first entries, one per interval, are the contributions, and later ones are as before.
@@ -91,7 +117,7 @@ one-reply = answer-one
 pub one-finding : (a b : Found) (v : Verdict) → shown a ≡ v → shown b ≡ v → a ≡ b
 one-finding = finding-one
 
--- ---- the price of a kilowatt
+-- ---- the curve: the price of a kilowatt, and the integral
 
 -- Kilowatt k has a price when start ≤ k < last end.
 pub priced-between :
@@ -111,3 +137,34 @@ pub price-of-step :
     → k <ℤ endOf c j
     → quote c k ≡ known (priceOf c j)
 price-of-step = step-price
+
+-- An integral taken downward is the negative of the upward one.
+pub downward-is-the-negative : (c : Curve) (a b : ℤ) → integral c a b ≡ change negℤ (integral c b a)
+downward-is-the-negative = integral-turned
+
+-- ---- the derate's shares
+
+-- Shares are whole kW that sum to REDtot, where it does not exceed the room for it.
+pub shares-sum-to-the-reduction :
+    (a : DayAhead) (v : Interval) (limit : ℤ)
+    → reduction a limit ≤ ofFive (potential a v)
+    → ofFive (share (potential a v) (reduction a limit)) ≡ reduction a limit
+shares-sum-to-the-reduction a v limit = shares-sum (potential a v) (reduction a limit)
+
+-- None of them exceeds its POTRED.
+pub no-share-exceeds-its-potential :
+    (a : DayAhead) (v : Interval) (limit : ℤ)
+    → reduction a limit ≤ ofFive (potential a v)
+    → (j : ℕ)
+    → share (potential a v) (reduction a limit) j ≤ potential a v j
+no-share-exceeds-its-potential a v limit = share-bound (potential a v) (reduction a limit)
+
+-- Each is rounded down, and the left-over kW go one each to the largest remainders: with the larger remainder, i has one if j has.
+pub left-over-goes-to-the-largest :
+    (pot : ℕ → ℕ) (red i j : ℕ)
+    → i < 5
+    → j < 5
+    → remainder pot red j < remainder pot red i
+    → share pot red j ≡ floorOf pot red j + 1
+    → share pot red i ≡ floorOf pot red i + 1
+left-over-goes-to-the-largest = served-first

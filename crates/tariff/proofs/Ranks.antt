@@ -122,7 +122,7 @@ module _ (rem : ℕ → ℕ) where
       (λ q. omega (arith, eqb-true (rem i) (rem j) q, one-lt i j))
       (λ q. let differ : rem i ≢ rem j = eqb-false (rem i) (rem j) q in omega (arith, ltb-false (rem j) (rem i) e)))
 
-  rank-lt : (i j : ℕ) → i < 5 → j < 5 → rem j * 5 + i < rem i * 5 + j → rank rem i < rank rem j
+  pub rank-lt : (i j : ℕ) → i < 5 → j < 5 → rem j * 5 + i < rem i * 5 + j → rank rem i < rank rem j
   rank-lt i j u v h =
       omega (
         arith,

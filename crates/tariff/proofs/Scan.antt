@@ -15,7 +15,7 @@ use Rattle.exact.proofs.Range.{within-add, within-mul, within-more, within-zero
 use Rattle.tariff.specs.declared.Curve.{Curve}
 use Rattle.tariff.specs.Sheet.{endOf, priceOf}
 use Rattle.tariff.specs.Curve.{Amount, known, none, quoteFrom, quote, plus, change, sumUp}
-use Rattle.tariff.proofs.Curves.{none-plus, sum-up-same, sum-up-none}
+use Rattle.tariff.proofs.Curves.{none-plus, sum-nothing, sum-up-same, sum-up-none}
 
 -- ---- amounts
 
@@ -61,10 +61,6 @@ unfolding sumUp
 sum-times s f a zero = ap known (zero-*ℤ s)
 sum-times s f a (suc m) =
     times-plus s (sumUp f a m) (f (a +ℤ pos m)) ∙ ap (λ (x : Amount). plus x (change (λ z. z *ℤ s) (f (a +ℤ pos m)))) (sum-times s f a m)
-
-sum-nothing : (f : ℤ → Amount) (a : ℤ) (m : ℕ) → m ≡ 0 → sumUp f a m ≡ known (pos 0)
-unfolding sumUp
-sum-nothing f a m h = rw h
 
 -- the first kilowatt has no price
 sum-first : (f : ℤ → Amount) (a : ℤ) (m : ℕ) → f a ≡ none → 0 < m → sumUp f a m ≡ none

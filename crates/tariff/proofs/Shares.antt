@@ -1,4 +1,4 @@
--- The shares of a reduction no larger than the room for it: they sum to the reduction, and none exceeds its potential.
+-- The shares of a reduction: who is served of what is left over; and within the room they sum to it, and none exceeds its potential.
 use mathlib.Core.Path.{_≡_, refl, ap}
 use mathlib.Core.Logic.{_≢_}
 use mathlib.Core.Bool.{Bool, true, false, _||_}
@@ -11,7 +11,7 @@ use borrow.Author.Tests.{ltb-false, le-ltb, eqb-true, eqb-false, eq-eqb}
 use Rattle.exact.specs.Choice.{if_then_else_}
 use Rattle.exact.proofs.Parts.{by-test}
 use Rattle.tariff.specs.Derate.{ofFive, floorOf, remainder, leftOver, one, isBefore, rank, share}
-use Rattle.tariff.proofs.Ranks.{one-small, five, five-same, five-le, ranks-below}
+use Rattle.tariff.proofs.Ranks.{one-small, one-lt, five, five-same, five-le, rank-lt, ranks-below}
 
 -- ---- plain numbers
 
@@ -46,6 +46,19 @@ last rem j e = five-le (λ i. one (ltb 0 (rem i))) (λ i. one (isBefore rem i j)
 pub share-small : (pot : ℕ → ℕ) (red j : ℕ) → share pot red j ≤ floorOf pot red j + 1
 unfolding share
 share-small pot red j = omega (arith, one-small (ltb (rank (remainder pot red) j) (leftOver pot red)))
+
+-- a schedule with a larger remainder than one that is served is served too
+pub served-first : (pot : ℕ → ℕ) (red i j : ℕ) → i < 5 → j < 5 → remainder pot red j < remainder pot red i
+    → share pot red j ≡ floorOf pot red j + 1
+    → share pot red i ≡ floorOf pot red i + 1
+unfolding share
+served-first pot red i j u v larger served =
+    omega (
+      arith,
+      one-lt (rank (remainder pot red) i) (leftOver pot red),
+      one-lt (rank (remainder pot red) j) (leftOver pot red),
+      rank-lt (remainder pot red) i j u v (omega arith),
+    )
 
 module _ (pot : ℕ → ℕ) (red : ℕ) (fits : red ≤ ofFive pot) where
   -- ---- one schedule

@@ -1,0 +1,2 @@
+-- The law of the crate's public function.
+pub mod Unique

@@ -1,0 +1,41 @@
+-- `faults::order_fault` meets its contract: a block that has to say an hour says it, or is refused.
+use mathlib.Core.Path.{_≡_, sym, _∙_}
+use borrow.Author.Needs.{needs}
+use Rattle.exact.specs.Whole.{eqZ}
+use Rattle.tariff.specs.Hour.{order}
+use Rattle.exact.proofs.Calls.{handed}
+use Rattle.checks.proofs.faults.order_fault.Statement.{statement}
+use Rattle.checks.proofs.faults.order_fault.Tie as tie
+
+enum-told : tie.Need-enum-told
+enum-told c = search needs
+
+enum-known-expected : tie.Need-enum-known-expected
+enum-known-expected c = search needs
+
+same-hour-requires : tie.Need-same-hour-requires
+same-hour-requires c κs = search needs
+
+returns : tie.Need-returns
+unfolding order
+returns c = rw (c .enum-told .given .1)
+
+-- the call's answer, of the numbers that its bits stand for
+answer : (c : tie.After-same-hour) → c .same-hour .result ≡ eqZ (c .before .before .before .before .before .args .h .hour) (c .before .before .before .expected .given .0 .0)
+answer c =
+    let hour = handed (c .before .before .before .before .before .args .h .hour) (c .before .struct-told .given .0 .1) in
+    let said = handed (c .before .before .before .expected .given .0 .0) (c .before .before .known-told .given .0 .1) in
+    c .same-hour .ensures ∙ (λ i. eqZ (hour i) (said i))
+
+returns-2 : tie.Need-returns-2
+unfolding order
+returns-2 c = rw (c .before .before .before .before .expected .given .1, sym (answer (c .before)) ∙ c .if1 .taken)
+
+returns-3 : tie.Need-returns-3
+unfolding order
+returns-3 c = rw (c .before .before .before .before .expected .given .1, sym (answer (c .before)) ∙ c .if1 .left)
+
+pub order-fault-spec : {M : Type 1} → statement M
+order-fault-spec =
+    tie.close
+    (tie.spec enum-told enum-known-expected same-hour-requires returns returns-2 returns-3)

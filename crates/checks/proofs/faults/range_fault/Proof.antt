@@ -1,0 +1,154 @@
+-- `faults::range_fault` meets its contract. The loop's invariant: each interval passed is in range.
+use mathlib.Core.Path.{_≡_, sym, _∙_, ap}
+use mathlib.Core.Bool.{true, false, _&&_}
+use Prim.Native.Nat.{ℕ, _+_, _-_, _<_, _≤_}
+use native.Mathlib.Omega.{arith}
+use borrow.Author.Needs.{needs}
+use borrow.Author.Count.{below-none, below-more}
+use lib.ListN.{getD}
+use Rattle.tariff.specs.declared.Hour.{Hour}
+use Rattle.tariff.specs.Sheet.{isHour, aheadInRange, intervalInRange}
+use Rattle.tariff.specs.Reply.{Verdict, clear, fault, unless, firstOf}
+use Rattle.tariff.specs.Hour.{blank, interval, range}
+use Rattle.tariff.proofs.Checks.{clear-first, fault-first}
+use Rattle.tariff.proofs.Ranges.{form-says}
+use Rattle.exact.proofs.Calls.{passes, fails, handed}
+use Rattle.checks.proofs.faults.range_fault.Statement.{statement}
+use Rattle.checks.proofs.faults.range_fault.Tie as tie
+
+-- ---- the intervals' lines
+
+abbrev lineOf : Hour → ℕ → Verdict
+lineOf h i = unless (intervalInRange (interval h i)) 2 (i + 4)
+
+module _ (h : Hour) (i : ℕ) (before : (k : ℕ) → k < i → intervalInRange (interval h k) ≡ true) where
+  line-clear : (k : ℕ) → k < i → lineOf h k ≡ clear
+  line-clear k u = rw (before k u)
+
+  lines-clear : i ≡ h .n → firstOf (lineOf h) (h .n) ≡ clear
+  lines-clear e = rw (← e) (clear-first (lineOf h) i line-clear)
+
+  line-fault : i < h .n → intervalInRange (interval h i) ≡ false → firstOf (lineOf h) (h .n) ≡ fault 2 (i + 4)
+  line-fault u e = fault-first (lineOf h) (h .n) 2 (i + 4) (record { at = i; below = u; before = line-clear; gives = rw e })
+
+abbrev Inv-loop : tie.InvT-loop
+Inv-loop n iv i₀ i = (i ≤ n) × ((k : ℕ) → k < i → intervalInRange (getD iv k blank) ≡ true)
+
+abbrev μ-loop : tie.MeasureT-loop
+μ-loop n iv i₀ i = n - i
+
+-- ---- the first three lines
+
+is-hour-requires : tie.Need-is-hour-requires Inv-loop μ-loop
+is-hour-requires c κs = search needs
+
+ahead-in-range-requires : tie.Need-ahead-in-range-requires Inv-loop μ-loop
+ahead-in-range-requires c κs = search needs
+
+both-requires : tie.Need-both-requires Inv-loop μ-loop
+both-requires c κs = search needs
+
+-- line 1: the two answers joined
+joined : (c : tie.After-both Inv-loop μ-loop) → c .both .result ≡ (isHour (c .before .before .before .before .args .h .hour) && aheadInRange (c .before .before .before .before .args .h .ahead))
+joined c =
+    let h = c .before .before .before .before .args .h in
+    let hour = handed (h .hour) (c .before .before .before .struct-told .given .0 .1) in
+    c .both .ensures ∙ (λ i. (c .before .before .is-hour .ensures ∙ ap isHour hour) i && c .before .ahead-in-range .ensures i)
+
+returns : tie.Need-returns Inv-loop μ-loop
+unfolding range
+returns c = rw (fails (joined (c .before)) (c .if1 .taken))
+
+curve-in-range-requires : tie.Need-curve-in-range-requires Inv-loop μ-loop
+curve-in-range-requires c κs = let s = c .before .before .before .before .before in form-says (s .args .h) (s .pre) .0
+
+returns-2 : tie.Need-returns-2 Inv-loop μ-loop
+unfolding range
+returns-2 c =
+    let one = c .before .before in
+    rw (passes (joined (one .before)) (one .if1 .left), fails (c .before .curve-in-range .ensures) (c .if2 .taken))
+
+curve-in-range-requires-2 : tie.Need-curve-in-range-requires-2 Inv-loop μ-loop
+curve-in-range-requires-2 c κs = let s = c .before .before .before .before .before .before .before in form-says (s .args .h) (s .pre) .1
+
+returns-3 : tie.Need-returns-3 Inv-loop μ-loop
+unfolding range
+returns-3 c =
+    let two = c .before .before in
+    let one = two .before .before in
+    rw (passes (joined (one .before)) (one .if1 .left), passes (two .before .curve-in-range .ensures) (two .if2 .left), fails (c .before .curve-in-range2 .ensures) (c .if3 .taken))
+
+-- what is left of the check when those are in range
+rest : (c : tie.After-iv Inv-loop μ-loop) → range (c .before .before .before .before .before .before .before .before .before .before .args .h) ≡ firstOf (lineOf (c .before .before .before .before .before .before .before .before .before .before .args .h)) (c .before .before .before .before .before .before .before .before .before .before .args .h .n)
+unfolding range
+rest c =
+    let three = c .before in
+    let two = three .before .before in
+    let one = two .before .before in
+    rw (passes (joined (one .before)) (one .if1 .left), passes (two .before .curve-in-range .ensures) (two .if2 .left), passes (three .before .curve-in-range2 .ensures) (three .if3 .left))
+
+-- ---- the loop
+
+loop-holds : tie.Need-loop-holds Inv-loop μ-loop
+loop-holds c = (omega arith, below-none _)
+
+small : (c : tie.In-loop Inv-loop μ-loop) → c .before .loop .i < 30
+small c = let s = c .before .before .before .before .before .before .before .before .before .before .before .before in omega (arith, form-says (s .args .h) (s .pre))
+
+mul-v : tie.Need-mul-v Inv-loop μ-loop
+mul-v c = omega (arith, small c)
+
+array-copy-out-v : tie.Need-array-copy-out-v Inv-loop μ-loop
+array-copy-out-v c = small c
+
+interval-in-range-requires : tie.Need-interval-in-range-requires Inv-loop μ-loop
+interval-in-range-requires c κs = search needs
+
+add-t19 : tie.Need-add-t19 Inv-loop μ-loop
+add-t19 c = omega (arith, small (c .before .before .before))
+
+returns-4 : tie.Need-returns-4 Inv-loop μ-loop
+returns-4 c =
+    let l = c .before .before .before .before in
+    let line = line-fault (l .before .before .before .before .before .before .before .before .before .before .before .args .h) (l .loop .i) (l .loop .inv .1) (c .before .before .before .loop-test .taken) (fails (c .before .interval-in-range .ensures) (c .if4 .taken)) in
+    sym (rest (l .before) ∙ line)
+
+add-i : tie.Need-add-i Inv-loop μ-loop
+add-i c = omega (arith, small (c .before .before .before))
+
+loop-less : tie.Need-loop-less Inv-loop μ-loop
+loop-less c = omega arith
+
+loop-again : tie.Need-loop-again Inv-loop μ-loop
+loop-again c =
+    (omega arith, below-more _ _ (c .before .before .before .before .loop .inv .1) (passes (c .before .interval-in-range .ensures) (c .if4 .left)))
+
+returns-5 : tie.Need-returns-5 Inv-loop μ-loop
+returns-5 c =
+    let l = c .before in
+    sym (rest (l .before) ∙ lines-clear (l .before .before .before .before .before .before .before .before .before .before .before .args .h) (l .loop .i) (l .loop .inv .1) (omega arith))
+
+pub range-fault-spec : {M : Type 1} → statement M
+range-fault-spec =
+    tie.close
+    (tie.spec
+    Inv-loop
+    μ-loop
+    is-hour-requires
+    ahead-in-range-requires
+    both-requires
+    returns
+    curve-in-range-requires
+    returns-2
+    curve-in-range-requires-2
+    returns-3
+    loop-holds
+    mul-v
+    array-copy-out-v
+    interval-in-range-requires
+    add-t19
+    returns-4
+    add-i
+    loop-less
+    loop-again
+    returns-5)

@@ -1,0 +1,94 @@
+-- `faults::seconds_fault` meets its contract. The loop's invariant: the sum is that of the intervals passed, each at most 900.
+use mathlib.Core.Path.{_≡_, sym, _∙_}
+use Prim.Native.Nat.{ℕ, _-_, _<_, _≤_}
+use native.Mathlib.Omega.{arith}
+use borrow.Author.Needs.{needs}
+use lib.ListN.{getD}
+use lib.IntN.{ℤ, pos}
+use Rattle.exact.specs.Whole.{Within, eqZ, sumTo}
+use Rattle.exact.proofs.Range.{within-more}
+use Rattle.exact.proofs.Sums.{sum-none, sum-more, sum-within}
+use Rattle.tariff.specs.declared.Hour.{Hour}
+use Rattle.tariff.specs.Reply.{clear}
+use Rattle.tariff.specs.Hour.{blank, interval, range, secondsSum}
+use Rattle.tariff.proofs.Ranges.{form-says, range-says, interval-fits}
+use Rattle.checks.proofs.faults.seconds_fault.Statement.{statement}
+use Rattle.checks.proofs.faults.seconds_fault.Tie as tie
+
+abbrev secondsOf : Hour → ℕ → ℤ
+secondsOf h k = interval h k .s .0
+
+each-fits : (h : Hour) → range h ≡ clear → (k : ℕ) → k < h .n → Within 900 (secondsOf h k)
+each-fits h e k u = interval-fits (interval h k) (range-says h e .4 k u) .s
+
+abbrev Inv-loop : tie.InvT-loop
+Inv-loop n iv sum₀ i₀ sum i = (i ≤ n) × (sum .0 ≡ sumTo (λ k. getD iv k blank .s .0) i)
+
+abbrev μ-loop : tie.MeasureT-loop
+μ-loop n iv sum₀ i₀ sum i = n - i
+
+loop-holds : tie.Need-loop-holds Inv-loop μ-loop
+loop-holds c = (omega arith, sym (sum-none (secondsOf (c .before .args .h))))
+
+-- the loop goes over at most 30 intervals
+small : (c : tie.In-loop Inv-loop μ-loop) → c .before .loop .i < 30
+small c = let s = c .before .before .before in omega (arith, form-says (s .args .h) (s .pre .0))
+
+mul-v : tie.Need-mul-v Inv-loop μ-loop
+mul-v c = omega (arith, small c)
+
+array-copy-out-v : tie.Need-array-copy-out-v Inv-loop μ-loop
+array-copy-out-v c = small c
+
+seconds-plus-requires : tie.Need-seconds-plus-requires Inv-loop μ-loop
+seconds-plus-requires c κs =
+    let s = c .before .before .before .before in
+    let l = c .before .before .loop in
+    let each = each-fits (s .args .h) (s .pre .1) in
+    let sum = sum-within 900 (secondsOf (s .args .h)) (l .i) (λ k u. each k (omega arith)) in
+    (rw (l .inv .1) (within-more (omega (arith, small (c .before))) sum), each (l .i) (omega arith))
+
+add-i : tie.Need-add-i Inv-loop μ-loop
+add-i c = omega (arith, small (c .before .before))
+
+loop-less : tie.Need-loop-less Inv-loop μ-loop
+loop-less c = omega arith
+
+loop-again : tie.Need-loop-again Inv-loop μ-loop
+loop-again c =
+    let l = c .before .before .before .loop in
+    (omega arith, c .seconds-plus .ensures ∙ rw (sum-more (secondsOf (c .before .before .before .before .before .args .h)) (l .i), l .inv .1))
+
+is-an-hour-requires : tie.Need-is-an-hour-requires Inv-loop μ-loop
+is-an-hour-requires c κs = search needs
+
+answer : (c : tie.After-is-an-hour Inv-loop μ-loop) → eqZ (sumTo (secondsOf (c .before .before .before .before .args .h)) (c .before .before .before .before .args .h .n)) (pos 3600) ≡ c .is-an-hour .result
+answer c =
+    let h = c .before .before .before .before .args .h in
+    let all : c .before .before .loop .i ≡ h .n = omega arith in
+    rw (← all, ← c .before .before .loop .inv .1) (sym (c .is-an-hour .ensures))
+
+returns : tie.Need-returns Inv-loop μ-loop
+unfolding secondsSum
+returns c = rw (answer (c .before) ∙ c .if1 .taken)
+
+returns-2 : tie.Need-returns-2 Inv-loop μ-loop
+unfolding secondsSum
+returns-2 c = rw (answer (c .before) ∙ c .if1 .left)
+
+pub seconds-fault-spec : {M : Type 1} → statement M
+seconds-fault-spec =
+    tie.close
+    (tie.spec
+    Inv-loop
+    μ-loop
+    loop-holds
+    mul-v
+    array-copy-out-v
+    seconds-plus-requires
+    add-i
+    loop-less
+    loop-again
+    is-an-hour-requires
+    returns
+    returns-2)

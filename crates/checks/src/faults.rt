@@ -1,0 +1,164 @@
+// Each of the checks 1 to 5, over the whole record.
+ghost use mathlib.Core.Path.{_≡_};
+ghost use mathlib.Core.Bool.{Bool, true, _&&_};
+ghost use Prim.Native.Nat.{ℕ, _+_, _<_, _≤_};
+ghost use lib.IntN.{ℤ, pos, _+ℤ_};
+ghost use lib.Signed.{leZ};
+ghost use Rattle.exact.specs.Whole.{Within, eqZ, sumTo};
+ghost use Rattle.tariff.specs.Sheet.{curveInRange, curveKeeps};
+ghost use Rattle.tariff.specs.Reply.{shown, clear};
+ghost use Rattle.tariff.specs.Hour.{interval, form, range, order, curves, secondsSum};
+use crate::ranges;
+use tariff::Check;
+use tariff::Curve;
+use tariff::Expected;
+use tariff::Found;
+use tariff::Hour;
+use tariff::Kw;
+use tariff::Price;
+use tariff::Seconds;
+
+pub fn form_fault(h: Hour) -> Found
+    ensures { λ r. ⌜ shown r ≡ form h ⌝ }
+{
+    if 12 < h.da.n {
+        return Found::Fault(Check::Form(2));
+    }
+    if 12 < h.rt.n {
+        return Found::Fault(Check::Form(3));
+    }
+    if 30 < h.n {
+        return Found::Fault(Check::Form(34));
+    }
+    Found::Nothing
+}
+
+// The first line with a number out of range. Interval i, from 0, stands on line i + 4.
+pub fn range_fault(h: Hour) -> Found
+    requires { ⌜ form h ≡ clear ⌝ }
+    ensures { λ r. ⌜ shown r ≡ range h ⌝ }
+{
+    if !ranges::both(ranges::is_hour(h.hour), ranges::ahead_in_range(h.ahead)) {
+        return Found::Fault(Check::Range(1));
+    }
+    if !ranges::curve_in_range(h.da) {
+        return Found::Fault(Check::Range(2));
+    }
+    if !ranges::curve_in_range(h.rt) {
+        return Found::Fault(Check::Range(3));
+    }
+    let n = h.n;
+    let iv = h.iv;
+    let mut i: usize = 0;
+    while i < n {
+        let v = iv[i];
+        if !ranges::interval_in_range(v) {
+            return Found::Fault(Check::Range(i + 4));
+        }
+        i += 1;
+    }
+    Found::Nothing
+}
+
+pub fn same_hour(a: i64, b: i64) -> bool
+    ensures { λ r. ⌜ r ≡ eqZ a b ⌝ }
+{
+    a == b
+}
+
+pub fn order_fault(h: Hour, expected: Expected) -> Found
+    ensures { λ r. ⌜ shown r ≡ order h expected ⌝ }
+{
+    match expected {
+        Expected::Any => Found::Nothing,
+        Expected::Says(hour) => {
+            if same_hour(h.hour, hour) {
+                Found::Nothing
+            } else {
+                Found::Fault(Check::Order)
+            }
+        }
+    }
+}
+
+pub fn price_at_most(a: Price, b: Price) -> bool
+    ensures { λ r. ⌜ r ≡ leZ (a .0) (b .0) ⌝ }
+{
+    a.0 <= b.0
+}
+
+// Ends rise strictly; from the third step on no price is below the one before.
+pub fn curve_keeps(c: Curve) -> bool
+    requires { ⌜ c .n ≤ 12 ⌝ }
+    ensures { λ r. ⌜ r ≡ curveKeeps c ⌝ }
+{
+    let n = c.n;
+    if n == 0 {
+        return units::same(c.start, Kw(0));
+    }
+    let to = c.to;
+    let at = c.at;
+    let mut begin = c.start;
+    let mut j: usize = 0;
+    while j < n {
+        let end = to[j];
+        if !units::below(begin, end) {
+            return false;
+        }
+        if 2 <= j {
+            if !price_at_most(at[j - 1], at[j]) {
+                return false;
+            }
+        }
+        begin = end;
+        j += 1;
+    }
+    true
+}
+
+pub fn curve_fault(h: Hour) -> Found
+    requires { ⌜ form h ≡ clear ⌝ }
+    ensures { λ r. ⌜ shown r ≡ curves h ⌝ }
+{
+    if !curve_keeps(h.da) {
+        return Found::Fault(Check::Curve(2));
+    }
+    if !curve_keeps(h.rt) {
+        return Found::Fault(Check::Curve(3));
+    }
+    Found::Nothing
+}
+
+// At most 30 intervals of at most 900 seconds.
+pub fn seconds_plus(a: Seconds, b: Seconds) -> Seconds
+    requires { ⌜ Within 27000 (a .0) × Within 900 (b .0) ⌝ }
+    ensures { λ r. ⌜ r .0 ≡ a .0 +ℤ b .0 ⌝ }
+{
+    Seconds(a.0 + b.0)
+}
+
+pub fn is_an_hour(s: Seconds) -> bool
+    ensures { λ r. ⌜ r ≡ eqZ (s .0) (pos 3600) ⌝ }
+{
+    s.0 == 3600
+}
+
+pub fn seconds_fault(h: Hour) -> Found
+    requires { ⌜ (form h ≡ clear) × (range h ≡ clear) ⌝ }
+    ensures { λ r. ⌜ shown r ≡ secondsSum h ⌝ }
+{
+    let n = h.n;
+    let iv = h.iv;
+    let mut sum = Seconds(0);
+    let mut i: usize = 0;
+    while i < n {
+        let v = iv[i];
+        sum = seconds_plus(sum, v.s);
+        i += 1;
+    }
+    if is_an_hour(sum) {
+        Found::Nothing
+    } else {
+        Found::Fault(Check::Seconds)
+    }
+}

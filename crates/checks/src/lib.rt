@@ -1,0 +1,33 @@
+// Checks 1 to 5 of an hour's record, in their order: form, range, order, curve, seconds.
+ghost use mathlib.Core.Path.{_≡_};
+ghost use Rattle.tariff.specs.Reply.{shown};
+ghost use Rattle.tariff.specs.Hour.{blockFault};
+use tariff::Expected;
+use tariff::Found;
+use tariff::Hour;
+
+mod faults;
+mod ranges;
+
+// The first of the faults 1 to 5.
+pub fn block_fault(h: Hour, expected: Expected) -> Found
+    ensures { λ r. ⌜ shown r ≡ blockFault h expected ⌝ }
+{
+    let form = faults::form_fault(h);
+    if let Found::Fault(check) = form {
+        return Found::Fault(check);
+    }
+    let range = faults::range_fault(h);
+    if let Found::Fault(check) = range {
+        return Found::Fault(check);
+    }
+    let order = faults::order_fault(h, expected);
+    if let Found::Fault(check) = order {
+        return Found::Fault(check);
+    }
+    let curve = faults::curve_fault(h);
+    if let Found::Fault(check) = curve {
+        return Found::Fault(check);
+    }
+    faults::seconds_fault(h)
+}

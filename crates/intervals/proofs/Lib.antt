@@ -1,0 +1,11 @@
+-- Laws that the proofs of the crate's functions cite; `Unique` has the law of the public one.
+pub mod Fives
+pub mod Cuts
+pub mod Derates
+pub mod Schedules
+pub mod Tasks
+pub mod Scans
+pub mod Walks
+pub mod Fits
+pub mod Works
+pub mod Unique

@@ -1,0 +1,69 @@
+-- What checks 1 to 7 find and the intervals come to, by the way that the work ends.
+use mathlib.Core.Path.{_≡_, refl, sym, ap, _∙_}
+use mathlib.Core.Bool.{Bool}
+use Prim.Native.Nat.{ℕ, _≤_}
+use native.Mathlib.Omega.{arith}
+use Rattle.exact.specs.Whole.{sumTo}
+use Rattle.exact.proofs.Sums.{sum-same}
+use Rattle.tariff.specs.declared.Check.{Check}
+use Rattle.tariff.specs.declared.Found.the-variants.{Nothing, Fault}
+use Rattle.tariff.specs.declared.Grains.{Grains}
+use Rattle.tariff.specs.declared.Hour.{Hour}
+use Rattle.tariff.specs.declared.Expected.{Expected}
+use Rattle.tariff.specs.Reply.{shown, clear, fault, _then_}
+use Rattle.tariff.specs.Hour.{form, range, order, curves, secondsSum, blockFault, intervals, contribution, hourSum}
+use Rattle.tariff.proofs.Checks.{then-clear}
+use Rattle.tariff.proofs.Ranges.{form-says}
+use Rattle.intervals.specs.declared.steps.Walked.{Walked}
+use Rattle.intervals.specs.declared.Contributions.{Contributions}
+use Rattle.intervals.specs.Walk.{grainsAt, WalkedTo, refusedBy, ContributionsOf}
+
+-- without faults 1 to 5 the counts and the numbers are in their ranges
+pub no-fault-says : (h : Hour) (expected : Expected) → blockFault h expected ≡ clear → (form h ≡ clear) × (range h ≡ clear) × (h .n ≤ 30)
+no-fault-says h expected e =
+    let later = order h expected then curves h then secondsSum h in
+    let p = then-clear (form h) (range h then later) e in
+    (p .0, then-clear (range h) later (p .1) .0, form-says h (p .0) .2)
+
+no : {number place : ℕ} → fault number place ≡ clear → ⊥
+no e = let z : _≡_ {A = ℕ} 0 1 = cc in omega arith
+
+module _ (h : Hour) (isExcluded : Bool) (expected : Expected) where
+  refused : (r : Contributions) (check : Check) → r ≡ refusedBy (Fault check) → (blockFault h expected then intervals h isExcluded) ≡ shown (Fault check)
+      → ContributionsOf h isExcluded expected r
+  refused r check f e =
+      rw f
+      record {
+        found = sym e;
+        long = refl;
+        few = λ q. absurd (no q);
+        written = λ q. absurd (no q);
+        rest = λ q. absurd (no q);
+        sum = λ q. absurd (no q);
+        refused = λ other q. ap refusedBy q;
+      }
+
+  pub refused-by-block : (r : Contributions) (check : Check) → r ≡ refusedBy (Fault check) → blockFault h expected ≡ shown (Fault check)
+      → ContributionsOf h isExcluded expected r
+  refused-by-block r check f b = refused r check f (rw b)
+
+  module _ (b : blockFault h expected ≡ clear) where
+    pub refused-by-walk : (r : Contributions) (check : Check) → r ≡ refusedBy (Fault check) → intervals h isExcluded ≡ shown (Fault check)
+        → ContributionsOf h isExcluded expected r
+    refused-by-walk r check f w = refused r check f (rw (b, w))
+
+    -- the walk found nothing: its parts, and their sum
+    pub worked-out : (w : Walked) → WalkedTo h isExcluded w → w .found ≡ Nothing → (sum : Grains) → sum .0 ≡ sumTo (grainsAt (w .parts)) (h .n)
+        → ContributionsOf h isExcluded expected (record { found = Nothing; parts = w .parts; sum = sum })
+    unfolding hourSum
+    worked-out w of f sum s =
+        let clean : shown (w .found) ≡ clear = ap shown f in
+        record {
+          found = rw (b, ← of .first, f);
+          long = of .long;
+          few = λ q. no-fault-says h expected b .2;
+          written = λ q. of .written clean;
+          rest = λ q. of .rest clean;
+          sum = λ q. s ∙ sum-same (grainsAt (w .parts)) (contribution h isExcluded) (h .n) (of .written clean);
+          refused = λ check q. absurd (no (sym (ap shown q)));
+        }

@@ -1,0 +1,17 @@
+-- `derate::kw_cut` meets its contract: the cut fits an `i64`, and so does the difference.
+use borrow.Author.Needs.{needs}
+use Rattle.intervals.proofs.Cuts.{cut-fits, cut-gives}
+use Rattle.intervals.proofs.derate.kw_cut.Statement.{statement}
+use Rattle.intervals.proofs.derate.kw_cut.Tie as tie
+
+cast-t3 : tie.Need-cast-t3
+cast-t3 c = search needs
+
+sub-t4 : tie.Need-sub-t4
+sub-t4 c = let s = c .before .before .before in cut-fits _ _ (s .pre .0) (s .pre .1)
+
+returns : tie.Need-returns
+returns c = let s = c .before .before .before in cut-gives _ _ (s .pre .0) (s .pre .1)
+
+pub kw-cut-spec : {M : Type 1} → statement M
+kw-cut-spec = tie.close (tie.spec cast-t3 sub-t4 returns)

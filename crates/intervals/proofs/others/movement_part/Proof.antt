@@ -1,0 +1,27 @@
+-- `others::movement_part` gives what regulation movement takes, and its product fits.
+use borrow.Author.Needs.{needs}
+use Rattle.exact.proofs.Range.{within-less, within-max, within-zero}
+use Rattle.tariff.specs.Contributions.{movement}
+use Rattle.intervals.proofs.others.movement_part.Statement.{statement}
+use Rattle.intervals.proofs.others.movement_part.Tie as tie
+
+move-less-requires : tie.Need-move-less-requires
+move-less-requires c κs = search needs
+
+move-or-zero-requires : tie.Need-move-or-zero-requires
+move-or-zero-requires c κs = search needs
+
+moved-requires : tie.Need-moved-requires
+moved-requires c κs =
+    let p = c .before .before .pre in (
+      p .0,
+      rw (c .move-or-zero .ensures, c .before .move-less .ensures) (within-max (within-less (p .1) (p .2)) (within-zero 2000000)),
+    )
+
+returns : tie.Need-returns
+unfolding movement
+returns c = cc
+
+pub movement-part-spec : {M : Type 1} → statement M
+movement-part-spec =
+    tie.close (tie.spec move-less-requires move-or-zero-requires moved-requires returns)

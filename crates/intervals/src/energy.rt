@@ -1,0 +1,113 @@
+// The energy branch of an interval: lower or upper, and its limit.
+ghost use mathlib.Core.Path.{_≡_};
+ghost use mathlib.Core.Bool.{Bool};
+ghost use lib.IntN.{ℤ};
+ghost use Rattle.exact.specs.Whole.{Within};
+ghost use Rattle.tariff.specs.Contributions.{capped, isLower, lowerLimit, isInject, isWithdraw, upperLimit, limitOf};
+use crate::sums;
+use tariff::Kw;
+
+// Output above the schedule and its compensable overgeneration is not counted.
+pub fn capped_output(live: Kw, ae: Kw, co: Kw) -> Kw
+    requires { ⌜ Within 2000000 (live .0) × Within 2000000 (co .0) ⌝ }
+    ensures { λ r. ⌜ r .0 ≡ capped (live .0) (ae .0) (co .0) ⌝ }
+{
+    if units::below(Kw(0), live) {
+        units::kw_min(ae, sums::kw_plus(live, co))
+    } else {
+        ae
+    }
+}
+
+pub fn is_lower(d: Kw, live: Kw) -> bool
+    ensures { λ r. ⌜ r ≡ isLower (d .0) (live .0) ⌝ }
+{
+    let zero = Kw(0);
+    if units::below(zero, d) {
+        units::below(live, d)
+    } else if units::below(d, zero) {
+        units::below(d, live)
+    } else {
+        false
+    }
+}
+
+pub fn lower_limit(d: Kw, live: Kw, e: Kw, a: Kw) -> Kw
+    ensures { λ r. ⌜ r .0 ≡ lowerLimit (d .0) (live .0) (e .0) (a .0) ⌝ }
+{
+    let zero = Kw(0);
+    if !units::below(zero, d) {
+        return units::kw_min(
+            units::kw_min(units::kw_max(units::kw_max(d, a), e), live),
+            zero,
+        );
+    }
+    if units::below(live, e) {
+        units::kw_max(
+            units::kw_min(units::kw_max(live, units::kw_min(a, e)), d),
+            zero,
+        )
+    } else {
+        units::kw_max(
+            units::kw_min(units::kw_min(live, units::kw_max(a, e)), d),
+            zero,
+        )
+    }
+}
+
+pub fn is_inject(d: Kw, live: Kw) -> bool
+    ensures { λ r. ⌜ r ≡ isInject (d .0) (live .0) ⌝ }
+{
+    let zero = Kw(0);
+    if units::below(zero, d) {
+        return true;
+    }
+    if units::same(d, zero) {
+        units::below(zero, live)
+    } else {
+        false
+    }
+}
+
+pub fn is_withdraw(d: Kw, live: Kw) -> bool
+    ensures { λ r. ⌜ r ≡ isWithdraw (d .0) (live .0) ⌝ }
+{
+    let zero = Kw(0);
+    if units::below(d, zero) {
+        return true;
+    }
+    if units::same(d, zero) {
+        units::below(live, zero)
+    } else {
+        false
+    }
+}
+
+pub fn upper_limit(d: Kw, live: Kw, e: Kw, a: Kw) -> Kw
+    ensures { λ r. ⌜ r .0 ≡ upperLimit (d .0) (live .0) (e .0) (a .0) ⌝ }
+{
+    if is_inject(d, live) {
+        if units::below(live, e) {
+            return units::kw_max(live, units::kw_min(a, e));
+        }
+        if units::below(e, d) {
+            return units::kw_max(live, units::kw_min(a, e));
+        }
+        return units::kw_min(live, units::kw_max(a, e));
+    }
+    if is_withdraw(d, live) {
+        units::kw_min(live, units::kw_max(a, e))
+    } else {
+        Kw(0)
+    }
+}
+
+pub fn limit_of(d: Kw, live: Kw, e: Kw, a: Kw) -> Kw
+    ensures { λ r. ⌜ r .0 ≡ limitOf (d .0) (live .0) (e .0) (a .0) ⌝ }
+{
+    if is_lower(d, live) {
+        lower_limit(d, live, e, a)
+    } else {
+        upper_limit(d, live, e, a)
+    }
+}

@@ -1,0 +1,90 @@
+// The contributions of an hour's intervals, behind checks 1 to 7: everything of the hour call but the lent row.
+ghost use mathlib.Core.Path.{_≡_};
+ghost use Prim.Native.Nat.{ℕ, _≤_};
+ghost use lib.IntN.{ℤ};
+ghost use Rattle.exact.specs.Whole.{sumTo};
+ghost use Rattle.tariff.specs.Reply.{clear};
+ghost use Rattle.tariff.specs.Hour.{form, range};
+ghost use Rattle.intervals.specs.Walk.{grainsAt, WalkedTo, Bounded, refusedBy, ContributionsOf};
+use steps::Walked;
+use tariff::Expected;
+use tariff::Found;
+use tariff::Grains;
+use tariff::Hour;
+
+mod derate;
+mod energy;
+mod others;
+mod steps;
+mod sums;
+mod walk;
+
+// The first fault of checks 1 to 7; where there is none, the contributions of the hour's intervals, first to last, and their sum.
+pub struct Contributions {
+    pub found: Found,
+    pub parts: [Grains; 30],
+    pub sum: Grains,
+}
+
+// The sum of the first `n` contributions.
+fn sum_of(parts: [Grains; 30], n: usize) -> Grains
+    requires { ⌜ (n ≤ 30) × Bounded parts ⌝ }
+    ensures { λ r. ⌜ r .0 ≡ sumTo (grainsAt parts) n ⌝ }
+{
+    let mut sum = Grains(0);
+    let mut i: usize = 0;
+    while i < n {
+        let g = parts[i];
+        sum = sums::grains_plus(sum, g);
+        i += 1;
+    }
+    sum
+}
+
+// An excluded hour asks checks 6 and 7 of no interval, and each contributes nothing.
+fn walk_unless(h: Hour, excluded: bool) -> Walked
+    requires { ⌜ (form h ≡ clear) × (range h ≡ clear) ⌝ }
+    ensures { λ r. ⌜ WalkedTo h excluded r ⌝ }
+{
+    if excluded {
+        return Walked {
+            found: Found::Nothing,
+            parts: [Grains(0); 30],
+        };
+    }
+    walk::walk_hour(h)
+}
+
+// What a refused hour comes to: nothing.
+fn refused_by(found: Found) -> Contributions
+    ensures { λ r. ⌜ r ≡ refusedBy found ⌝ }
+{
+    Contributions {
+        found,
+        parts: [Grains(0); 30],
+        sum: Grains(0),
+    }
+}
+
+// Judges a record by checks 1 to 7 and works out its intervals. Any values in any field are judged.
+pub fn work_out(h: Hour, excluded: bool, expected: Expected) -> Contributions
+    ensures { λ r. ⌜ ContributionsOf h excluded expected r ⌝ }
+{
+    let fault = checks::block_fault(h, expected);
+    if let Found::Fault(check) = fault {
+        return refused_by(Found::Fault(check));
+    }
+    let w = walk_unless(h, excluded);
+    let found = w.found;
+    if let Found::Fault(check) = found {
+        return refused_by(Found::Fault(check));
+    }
+    let parts = w.parts;
+    let n = h.n;
+    let sum = sum_of(parts, n);
+    Contributions {
+        found: Found::Nothing,
+        parts,
+        sum,
+    }
+}

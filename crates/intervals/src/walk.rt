@@ -1,0 +1,160 @@
+// Checks 6 and 7 and the contributions: one loop over the intervals, with the scan of the curve's steps inside.
+ghost use mathlib.Core.Path.{_≡_};
+ghost use mathlib.Core.Bool.{Bool, true, false};
+ghost use Prim.Native.Nat.{ℕ, _<_, _≤_};
+ghost use lib.IntN.{ℤ, _+ℤ_, _-ℤ_};
+ghost use Rattle.exact.specs.Whole.{Within};
+ghost use Rattle.tariff.specs.Units.{grainsOf};
+ghost use Rattle.tariff.specs.Sheet.{aheadInRange, intervalInRange};
+ghost use Rattle.tariff.specs.Reply.{clear};
+ghost use Rattle.tariff.specs.Hour.{form, range};
+ghost use Rattle.intervals.specs.Task.{preparedOf, curveOf, signedCost, finished, Fitting};
+ghost use Rattle.intervals.specs.Walk.{WalkedTo};
+use crate::derate;
+use crate::energy;
+use crate::others;
+use crate::steps::Prepared;
+use crate::steps::Task;
+use crate::steps::Walked;
+use crate::sums;
+use tariff::Check;
+use tariff::Curve;
+use tariff::DayAhead;
+use tariff::Found;
+use tariff::Grains;
+use tariff::Hour;
+use tariff::Interval;
+use tariff::Kw;
+use tariff::Price;
+use tariff::Seconds;
+
+// What an interval asks: nothing if it lags (25.4), else its derate, and then the stretch between D and its limit.
+pub fn prepare(a: DayAhead, v: Interval) -> Prepared
+    requires { ⌜ (aheadInRange a ≡ true) × (intervalInRange v ≡ true) ⌝ }
+    ensures { λ r. ⌜ r ≡ preparedOf a v ⌝ }
+{
+    if !units::below(v.lim, v.ae) {
+        return Prepared::Ready(Task {
+            lower: true,
+            from: Kw(0),
+            limit: Kw(0),
+            pen: Price(0),
+            s: Seconds(0),
+            others: Grains(0),
+        });
+    }
+    let q = derate::derate_of(a, v);
+    if q.exceeds {
+        return Prepared::Exceeds;
+    }
+    let schedules = q.schedules;
+    let from = schedules[0];
+    let live = v.en;
+    let counted = energy::capped_output(live, v.ae, v.co);
+    let limit = energy::limit_of(from, live, v.eop, counted);
+    let pen = v.pen;
+    let s = v.s;
+    Prepared::Ready(Task {
+        lower: energy::is_lower(from, live),
+        from,
+        limit,
+        pen,
+        s,
+        others: others::others(a, v, schedules),
+    })
+}
+
+pub fn curve_for(lower: bool, da: Curve, rt: Curve) -> Curve
+    ensures { λ r. ⌜ r ≡ curveOf lower da rt ⌝ }
+{
+    if lower { da } else { rt }
+}
+
+// The cost so far, and the kilowatts from `x` up to `e` at one price.
+pub fn cost_plus(cost: Grains, x: Kw, e: Kw, p: Price, s: Seconds) -> Grains
+    requires { ⌜ Within 4000000000000000 (cost .0) × Within 2000000 (x .0) × Within 2000000 (e .0) × Within 1000000 (p .0) × Within 900 (s .0) ⌝ }
+    ensures { λ r. ⌜ r .0 ≡ cost .0 +ℤ grainsOf (e .0 -ℤ x .0) (p .0) (s .0) ⌝ }
+{
+    sums::grains_plus(cost, sums::product(sums::kw_less(e, x), p, s))
+}
+
+// The integral from D to the limit: taken downward it is the negative of the upward one.
+pub fn signed_cost(t: Task, cost: Grains) -> Grains
+    requires { ⌜ Within 4000000000000000 (cost .0) ⌝ }
+    ensures { λ r. ⌜ r .0 ≡ signedCost t (cost .0) ⌝ }
+{
+    if units::below(t.limit, t.from) {
+        sums::grains_less(Grains(0), cost)
+    } else {
+        cost
+    }
+}
+
+// The interval's contribution, from the cost of its stretch taken upward.
+pub fn finish(t: Task, cost: Grains) -> Grains
+    requires { ⌜ Fitting t × Within 4000000000000000 (cost .0) ⌝ }
+    ensures { λ r. ⌜ r .0 ≡ finished t (cost .0) ⌝ }
+{
+    let sold = sums::product(sums::kw_less(t.from, t.limit), t.pen, t.s);
+    let signed = signed_cost(t, cost);
+    let energy = sums::grains_plus(sold, signed);
+    if t.lower {
+        sums::grains_plus(energy, t.others)
+    } else {
+        sums::grains_plus(units::grains_or_loss(energy), t.others)
+    }
+}
+
+// The first DERATE or REACH of the hour, or every interval's contribution.
+pub fn walk_hour(h: Hour) -> Walked
+    requires { ⌜ (form h ≡ clear) × (range h ≡ clear) ⌝ }
+    ensures { λ r. ⌜ WalkedTo h false r ⌝ }
+{
+    let n = h.n;
+    let ahead = h.ahead;
+    let da = h.da;
+    let rt = h.rt;
+    let iv = h.iv;
+    let mut parts = [Grains(0); 30];
+    let mut i: usize = 0;
+    let found = 'hour: loop {
+        if n <= i {
+            break 'hour Found::Nothing;
+        }
+        let v = iv[i];
+        let Prepared::Ready(t) = prepare(ahead, v) else {
+            break 'hour Found::Fault(Check::Derate(i + 1));
+        };
+        let c = curve_for(t.lower, da, rt);
+        let low = units::kw_min(t.from, t.limit);
+        let high = units::kw_max(t.from, t.limit);
+        let s = t.s;
+        let mut cost = Grains(0);
+        if units::below(low, high) {
+            if units::below(low, c.start) {
+                break 'hour Found::Fault(Check::Reach(i + 1));
+            }
+            let mut x = low;
+            let mut j: usize = 0;
+            'scan: loop {
+                if c.n <= j {
+                    break 'hour Found::Fault(Check::Reach(i + 1));
+                }
+                let e = c.to[j];
+                let p = c.at[j];
+                if units::below(x, e) {
+                    if !units::below(e, high) {
+                        cost = cost_plus(cost, x, high, p, s);
+                        break 'scan;
+                    }
+                    cost = cost_plus(cost, x, e, p, s);
+                    x = e;
+                }
+                j += 1;
+            }
+        }
+        parts[i] = finish(t, cost);
+        i += 1;
+    };
+    Walked { found, parts }
+}

@@ -1,0 +1,3 @@
+-- The laws of the crate's functions.
+pub mod Signs
+pub mod Unique
