@@ -1,3 +1,6 @@
--- Laws that the proofs of the reader's functions cite.
-pub mod Numbers
+-- Laws that the proofs of the sheet's functions cite.
 pub mod Lines
+pub mod Fill
+pub mod Curves
+pub mod Rows
+pub mod Blocks

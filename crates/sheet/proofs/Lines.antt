@@ -6,36 +6,21 @@ use native.Mathlib.Decide.{decLt}
 use native.Mathlib.Numerals.{add-one}
 use native.Mathlib.Nat.{add-zero, add-suc, not-suc-le-zero}
 use native.Mathlib.Omega.{arith}
-use borrow.Author.Tests.{eq-eqb, ne-eqb}
 use lib.IntN.{ℤ, pos}
-use lib.ListN.{length, getD, set, drop, replicate, drop-of-length-le, length-set}
-use lib.Seq.{drop-cons, getD-set-same, getD-set-other}
-use Rattle.sheet.specs.Text.{byteAt}
+use lib.ListN.{length, getD, set, replicate, length-set}
+use lib.Seq.{getD-set-same, getD-set-other}
 use Rattle.sheet.specs.Keys.{keyOf}
-use Rattle.sheet.specs.Line.{keyAt, valueAfter, fieldAt, placeOf, valueOf, afterFields, valueIn, FieldsRead}
-use Rattle.sheet.specs.declared.number.Number.the-variants.{Got, Bad}
-use Rattle.sheet.specs.declared.number.Next.{Next}
-use Rattle.sheet.specs.declared.number.Next.the-variants.{At, Wrong}
+use Rattle.number.specs.Text.{keyAt}
+use Rattle.sheet.specs.Line.{valueAfter, fieldAt, placeOf, valueOf, afterFields, valueIn, FieldsRead}
+use Rattle.number.specs.declared.Number.the-variants.{Got, Bad}
+use Rattle.number.specs.declared.Next.{Next}
+use Rattle.number.specs.declared.Next.the-variants.{At, Wrong}
 
 -- a value on a list of itself
 getD-same {ℓ} : {A : Type ℓ} (n k : ℕ) (a : A) → getD (replicate n a) k a ≡ a
 getD-same zero k a = refl
 getD-same (suc n) zero a = refl
 getD-same (suc n) (suc k) a = getD-same n k a
-
--- ---- a key, byte by byte
-module _ (key s : List ℕ) (j i : ℕ) where
-  pub key-goes-on : j < length key → byteAt s i ≡ getD key j 0 → keyAt (drop j key) s i ≡ keyAt (drop (j + 1) key) s (i + 1)
-  unfolding keyAt
-  key-goes-on h e = rw (drop-cons key j 0 h, add-one j) (simp (eq-eqb _ _ e))
-
-  pub key-differs : j < length key → (byteAt s i ≡ getD key j 0 → ⊥) → keyAt (drop j key) s i ≡ Wrong
-  unfolding keyAt
-  key-differs h e = rw (drop-cons key j 0 h) (simp (ne-eqb _ _ e))
-
-  pub key-ends : length key ≤ j → keyAt (drop j key) s i ≡ At i
-  unfolding keyAt
-  key-ends h = rw (drop-of-length-le key h)
 
 -- ---- the table of keys, number by number
 pub key-same : (k n : ℕ) (s : List ℕ) (at : ℕ) {r : Next} → k ≡ n → r ≡ keyAt (keyOf n) s at → r ≡ keyAt (keyOf k) s at

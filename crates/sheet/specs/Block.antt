@@ -19,8 +19,8 @@ use Rattle.tariff.specs.Units.{kw, price, movePrice, seconds}
 use Rattle.tariff.specs.Sheet.{liesIn}
 use Rattle.tariff.specs.Reply.{Reply, refused}
 use Rattle.tariff.specs.Hour.{blank, reply, rowAfter}
-use Rattle.sheet.specs.declared.number.Next.{Next}
-use Rattle.sheet.specs.declared.number.Next.the-variants.{At, Wrong}
+use Rattle.number.specs.declared.Next.{Next}
+use Rattle.number.specs.declared.Next.the-variants.{At, Wrong}
 use Rattle.sheet.specs.declared.block.Pairs.{Pairs}
 use Rattle.sheet.specs.declared.block.CurveRead.{CurveRead}
 use Rattle.sheet.specs.declared.block.RowsRead.{RowsRead}
@@ -179,13 +179,17 @@ abbrev pub afterLine2 : Next → (ℕ → ℤ) → Curve → List ℕ → Block
 afterLine2 Wrong v da s = broken 2
 afterLine2 (At at) v da s = afterLine3 (curveLine 12 s at) v da (curveOf 12 s at) s
 
-abbrev pub afterLine1 : Next → List ℕ → Block
-afterLine1 Wrong s = broken 1
-afterLine1 (At at) s = afterLine2 (curveLine 10 s at) (valueIn 0 s 0) (curveOf 10 s at) s
+abbrev pub afterLine1 : Next → List ℕ → ℕ → Block
+afterLine1 Wrong s from = broken 1
+afterLine1 (At at) s from = afterLine2 (curveLine 10 s at) (valueIn 0 s from) (curveOf 10 s at) s
 
--- a block that is lent: read up to its first empty line or its end
+-- the block that begins at a place: read up to its first empty line or the end of the text
+unfoldable pub blockAt : List ℕ → ℕ → Block
+blockAt s from = afterLine1 (lineAt 0 10 s from) s from
+
+-- a block that is lent
 unfoldable pub blockOf : List ℕ → Block
-blockOf s = afterLine1 (lineAt 0 10 s 0) s
+blockOf s = blockAt s 0
 
 -- FORM comes before every other check
 abbrev pub replyTo : Block → Bool → Expected → ℕ → Reply
@@ -195,6 +199,15 @@ replyTo (read h) isExcluded expected room = reply h isExcluded expected room
 abbrev pub rowTo : Block → Bool → Expected → List ℤ → List ℤ
 rowTo (broken line) isExcluded expected row = row
 rowTo (read h) isExcluded expected row = rowAfter h isExcluded expected row
+
+-- what a block says of itself: its hour, and how many intervals it has
+abbrev pub hourSaid : Block → ℤ
+hourSaid (broken line) = pos 0
+hourSaid (read h) = h .hour
+
+abbrev pub countSaid : Block → ℕ
+countSaid (broken line) = 0
+countSaid (read h) = h .n
 
 -- what the code's reading tells: a line that is not as printed, from 1, or none and the hour's record
 abbrev pub blockTold : BlockRead → Block

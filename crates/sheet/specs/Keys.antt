@@ -2,7 +2,7 @@
 use mathlib.Core.List.{List, [], _∷_, _++_}
 use Prim.Native.Nat.{ℕ}
 use lib.ListN.{getD}
-use Rattle.sheet.specs.Text.{bytes}
+use Rattle.number.specs.Text.{bytes}
 
 -- line 1 of an hour block: keys 0 to 9
 abbrev pub aheadKeys : List (List ℕ)

@@ -1,6 +1,4 @@
--- The sheet as bytes: what stands at a place of a text, line by line, as document 01 prints it.
-pub mod Text
-pub mod Number
+-- The sheet as bytes: what its lines say, as document 01 prints them.
 pub mod Keys
 pub mod Line
 pub mod Block

@@ -8,21 +8,14 @@ use lib.ListN.{getD, replicate}
 use lib.IntN.{ℤ, pos}
 use Rattle.exact.specs.Choice.{if_then_else_}
 use Rattle.exact.specs.Whole.{upTo}
-use Rattle.sheet.specs.declared.number.Number.{Number}
-use Rattle.sheet.specs.declared.number.Number.the-variants.{Got, Bad}
-use Rattle.sheet.specs.declared.number.Next.{Next}
-use Rattle.sheet.specs.declared.number.Next.the-variants.{At, Wrong}
+use Rattle.number.specs.declared.Number.{Number}
+use Rattle.number.specs.declared.Number.the-variants.{Got, Bad}
+use Rattle.number.specs.declared.Next.{Next}
+use Rattle.number.specs.declared.Next.the-variants.{At, Wrong}
 use Rattle.sheet.specs.declared.line.Fields.{Fields}
-use Rattle.sheet.specs.Text.{byteAt}
-use Rattle.sheet.specs.Number.{numberAt}
+use Rattle.number.specs.Text.{byteAt, keyAt}
+use Rattle.number.specs.Number.{numberAt}
 use Rattle.sheet.specs.Keys.{keyOf}
-
--- a fixed byte string, compared at a place: the place after it
-unfoldable pub keyAt : List ℕ → List ℕ → ℕ → Next
-keyAt [] s at = At at
-keyAt (k ∷ ks) s at =
-    let rest = keyAt ks s (at + 1) in
-    if eqb (byteAt s at) k then rest else Wrong
 
 -- only `uol` may be missing, as a minus alone: read as a number that seven digits cannot say
 abbrev pub missing : ℤ

@@ -4,9 +4,9 @@ ghost use Prim.Native.Nat.{ℕ, _+_, _<_, _≤_};
 ghost use lib.IntN.{ℤ, pos};
 ghost use lib.ListN.{getD};
 ghost use Rattle.tariff.specs.Hour.{blank};
-ghost use Rattle.sheet.specs.Block.{aheadOf, uolOf, intervalOf, countOf, PairsRead, CurveReadAt, RowsReadAt, blockOf, blockTold};
+ghost use Rattle.sheet.specs.Block.{aheadOf, uolOf, intervalOf, countOf, PairsRead, CurveReadAt, RowsReadAt, blockAt, blockTold};
 use crate::line;
-use crate::number::Next;
+use number::Next;
 use tariff::Curve;
 use tariff::DayAhead;
 use tariff::Hour;
@@ -218,11 +218,7 @@ pub fn rows_at(s: &[u8], at: usize) -> RowsRead
     let mut n: usize = 0;
     while !line::is_closed(s, i) {
         if 30 <= n {
-            return RowsRead {
-                broken: 34,
-                n,
-                iv,
-            };
+            return RowsRead { broken: 34, n, iv };
         }
         let fields = line::fields_at(s, i, 16, 20);
         let end = fields.next;
@@ -238,11 +234,7 @@ pub fn rows_at(s: &[u8], at: usize) -> RowsRead
         i = next;
         n += 1;
     }
-    RowsRead {
-        broken: 0,
-        n,
-        iv,
-    }
+    RowsRead { broken: 0, n, iv }
 }
 
 // A block whose line `broken` is not as printed: no record goes with it.
@@ -279,11 +271,11 @@ pub fn broken_block(broken: usize) -> BlockRead
     }
 }
 
-// The block that begins at the slice's first byte, read up to its first empty line or the slice's end.
-pub fn read_block(s: &[u8]) -> BlockRead
-    ensures { λ r. ⌜ blockTold r ≡ blockOf (now (s .entry)) ⌝ }
+// The block that begins at a place, read up to its first empty line or the text's end.
+pub fn read_block(s: &[u8], at: usize) -> BlockRead
+    ensures { λ r. ⌜ blockTold r ≡ blockAt (now (s .entry)) at ⌝ }
 {
-    let first = line::fields_at(s, 0, 0, 10);
+    let first = line::fields_at(s, at, 0, 10);
     let v = first.values;
     let fields = first.next;
     let Next::At(p1) = line::line_end(s, fields) else {

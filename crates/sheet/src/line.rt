@@ -4,10 +4,10 @@ ghost use Prim.Native.Nat.{ℕ, _+_, _<_, _≤_};
 ghost use lib.IntN.{ℤ, pos};
 ghost use lib.ListN.{getD};
 ghost use Rattle.sheet.specs.Keys.{keyOf};
-ghost use Rattle.sheet.specs.Line.{keyAt, fieldAt, andThen, lineFeed, closes, FieldsRead};
-use crate::number;
-use crate::number::Next;
-use crate::number::Number;
+ghost use Rattle.number.specs.Text.{keyAt};
+ghost use Rattle.sheet.specs.Line.{valueAt, valueAfter, fieldAt, andThen, lineFeed, closes, FieldsRead};
+use number::Next;
+use number::Number;
 
 // Keys 0 to 15: the lines of an hour block.
 fn hour_key(s: &[u8], at: usize, k: usize) -> Next
@@ -108,12 +108,40 @@ pub fn key_number(s: &[u8], at: usize, k: usize) -> Next
     other_key(s, at, k)
 }
 
+// The value behind key k. Only `uol`, key 23, may be missing.
+pub fn value_at(s: &[u8], at: usize, k: usize) -> Number
+    ensures { λ r. ⌜ r ≡ valueAt k (now (s .entry)) at ⌝ }
+{
+    let n = number::number_at(s, at);
+    if k != 23 {
+        return n;
+    }
+    if let Number::Got(_, _) = n {
+        return n;
+    }
+    if number::byte_at(s, at) == 45 {
+        Number::Got(10000000, at + 1)
+    } else {
+        Number::Bad
+    }
+}
+
+// The value of key k where its key was found.
+pub fn value_after(s: &[u8], next: Next, k: usize) -> Number
+    ensures { λ r. ⌜ r ≡ valueAfter k (now (s .entry)) next ⌝ }
+{
+    match next {
+        Next::At(at) => value_at(s, at, k),
+        Next::Wrong => Number::Bad,
+    }
+}
+
 // Key k and its value: the one way to read a field.
 pub fn field_at(s: &[u8], at: usize, k: usize) -> Number
     requires { ⌜ k < 58 ⌝ }
     ensures { λ r. ⌜ r ≡ fieldAt k (now (s .entry)) at ⌝ }
 {
-    number::value_after(s, key_number(s, at, k), k)
+    value_after(s, key_number(s, at, k), k)
 }
 
 // The values of a line's fields, and the place after them.

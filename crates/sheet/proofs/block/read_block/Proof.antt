@@ -3,7 +3,7 @@ use mathlib.Core.Path.{_≡_, sym, _∙_}
 use mathlib.Core.List.{List}
 use Prim.Native.Nat.{ℕ}
 use native.Mathlib.Omega.{arith}
-use Rattle.sheet.specs.declared.number.Next.the-variants.{At}
+use Rattle.number.specs.declared.Next.the-variants.{At}
 use Rattle.sheet.specs.Line.{lineAt}
 use Rattle.sheet.specs.Block.{curveLine, curveOf}
 use Rattle.sheet.proofs.Fill.{held-is}
@@ -17,8 +17,11 @@ use Rattle.sheet.proofs.block.read_block.Tie as tie
 abbrev text : tie.After-line-end → List ℕ
 text c = c .before .before .before .before .args .s .now
 
-line1 : (c : tie.After-line-end) → lineAt 0 10 (text c) 0 ≡ c .line-end .result
-line1 c = line-is 0 10 _ 0 _ _ (c .before .before .fields-at .ensures .next) (c .line-end .ensures)
+abbrev begins : tie.After-line-end → ℕ
+begins c = c .before .before .before .before .args .at
+
+line1 : (c : tie.After-line-end) → lineAt 0 10 (text c) (begins c) ≡ c .line-end .result
+line1 c = line-is 0 10 _ (begins c) _ _ (c .before .before .fields-at .ensures .next) (c .line-end .ensures)
 
 module _ (c : tie.After-known-told) where
   abbrev in1 : tie.After-line-end
@@ -27,7 +30,7 @@ module _ (c : tie.After-known-told) where
   abbrev place2 : ℕ
   place2 = c .before .p1 .given .0 .0
 
-  line2-at : lineAt 0 10 (text in1) 0 ≡ At place2
+  line2-at : lineAt 0 10 (text in1) (begins in1) ≡ At place2
   line2-at = line1 in1 ∙ c .before .p1 .given .1
 
 module _ (c : tie.After-known-told2) where
@@ -72,7 +75,7 @@ broken-block-requires : tie.Need-broken-block-requires
 broken-block-requires c κs = search needs
 
 returns : tie.Need-returns
-returns c = block-line1 _ _ (line1 (c .before .before .before) ∙ c .before .enum-told .given .1) (c .broken-block .ensures)
+returns c = block-line1 _ _ _ (line1 (c .before .before .before) ∙ c .before .enum-told .given .1) (c .broken-block .ensures)
 
 curve-at-requires : tie.Need-curve-at-requires
 curve-at-requires c κs = search needs
@@ -89,7 +92,7 @@ broken-block-requires-2 c κs = search needs
 returns-2 : tie.Need-returns-2
 returns-2 c =
     let k = c .before .before .before in
-    block-line2 _ _ (line2-at (k .before)) _ (sym (k .curve-at .ensures .next) ∙ c .before .enum-told2 .given .1) (c .broken-block2 .ensures)
+    block-line2 _ _ _ (line2-at (k .before)) _ (sym (k .curve-at .ensures .next) ∙ c .before .enum-told2 .given .1) (c .broken-block2 .ensures)
 
 curve-at-requires-2 : tie.Need-curve-at-requires-2
 curve-at-requires-2 c κs = search needs
@@ -106,7 +109,7 @@ broken-block-requires-3 c κs = search needs
 returns-3 : tie.Need-returns-3
 returns-3 c =
     let k = c .before .before .before in
-    block-line3 _ _ (line2-at (in2 (k .before))) _ (line3-at (k .before)) _ (sym (k .curve-at2 .ensures .next) ∙ c .before .enum-told3 .given .1)
+    block-line3 _ _ _ (line2-at (in2 (k .before))) _ (line3-at (k .before)) _ (sym (k .curve-at2 .ensures .next) ∙ c .before .enum-told3 .given .1)
     (c .broken-block3 .ensures)
 
 rows-at-requires : tie.Need-rows-at-requires
@@ -118,21 +121,21 @@ broken-block-requires-4 c κs = search needs
 returns-4 : tie.Need-returns-4
 returns-4 c =
     let k = c .before .before .before in
-    block-row _ _ (line2-at (in2 (in3 k))) _ (line3-at (in3 k)) _ (line4-at k) _ (c .before .before .rows-at .ensures) _ (c .before .if1 .taken) (c .broken-block4 .ensures)
+    block-row _ _ _ (line2-at (in2 (in3 k))) _ (line3-at (in3 k)) _ (line4-at k) _ (c .before .before .rows-at .ensures) _ (c .before .if1 .taken) (c .broken-block4 .ensures)
 
 ahead-of-requires : tie.Need-ahead-of-requires
 ahead-of-requires c κs = search needs
 
-array-copy-out-t24 : tie.Need-array-copy-out-t24
-array-copy-out-t24 c = search needs
+array-copy-out-t25 : tie.Need-array-copy-out-t25
+array-copy-out-t25 c = search needs
 
 returns-5 : tie.Need-returns-5
 returns-5 c =
     let k = c .before .before .before .before .before .before .before in
     let v = in1 (in2 (in3 k)) .before .before .fields-at .ensures .values in
-    block-read _ _ (line2-at (in2 (in3 k))) _ (line3-at (in3 k)) _ (line4-at k) _ (c .before .before .before .before .before .before .rows-at .ensures) _ _ _ _
+    block-read _ _ _ (line2-at (in2 (in3 k))) _ (line3-at (in3 k)) _ (line4-at k) _ (c .before .before .before .before .before .before .rows-at .ensures) _ _ _ _
     (c .before .before .before .before .before .if1 .left)
-    (held-is _ _ (c .t24 .given) (v 0 (omega arith))) (c .before .before .before .before .ahead-of .ensures ∙ ahead-same _ _ v) (da-is (in3 k)) (rt-is k)
+    (held-is _ _ (c .t25 .given) (v 0 (omega arith))) (c .before .before .before .before .ahead-of .ensures ∙ ahead-same _ _ v) (da-is (in3 k)) (rt-is k)
 
 pub read-block-spec : {M : Type 1} → statement M
 read-block-spec =
@@ -158,5 +161,5 @@ read-block-spec =
     broken-block-requires-4
     returns-4
     ahead-of-requires
-    array-copy-out-t24
+    array-copy-out-t25
     returns-5)

@@ -2,9 +2,9 @@
 use native.Mathlib.Omega.{arith}
 use borrow.Author.Needs.{needs}
 use borrow.Author.Tests.{lt-ltb, le-ltb}
-use Rattle.sheet.specs.Number.{digitAt}
-use Rattle.sheet.proofs.number.digit_at.Statement.{statement}
-use Rattle.sheet.proofs.number.digit_at.Tie as tie
+use Rattle.number.specs.Number.{digitAt}
+use Rattle.number.proofs.digits.digit_at.Statement.{statement}
+use Rattle.number.proofs.digits.digit_at.Tie as tie
 
 byte-at-requires : tie.Need-byte-at-requires
 byte-at-requires c κs = search needs

@@ -4,10 +4,10 @@ use mathlib.Core.Path.{_≡_, refl, sym, _∙_}
 use Prim.Native.Nat.{_<_, _≤_, _-_, _^_}
 use native.Mathlib.Omega.{arith}
 use borrow.Author.Needs.{needs}
-use Rattle.sheet.specs.Number.{moreDigits}
-use Rattle.sheet.proofs.Numbers.{digit-inside, more-stops, more-ends, more-goes-on, digits-more, digits-fit}
-use Rattle.sheet.proofs.number.more_digits.Statement.{statement}
-use Rattle.sheet.proofs.number.more_digits.Tie as tie
+use Rattle.number.specs.Number.{moreDigits}
+use Rattle.number.proofs.Numbers.{digit-inside, more-stops, more-ends, more-goes-on, digits-more, digits-fit}
+use Rattle.number.proofs.digits.more_digits.Statement.{statement}
+use Rattle.number.proofs.digits.more_digits.Tie as tie
 
 abbrev Inv-loop : tie.InvT-loop
 Inv-loop s at first v₀ i₀ left₀ v i left = (moreDigits 6 first s at ≡ moreDigits left v s i) × (v < 10 ^ (7 - left)) × (left ≤ 6)

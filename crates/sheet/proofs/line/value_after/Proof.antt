@@ -1,7 +1,7 @@
 -- `sheet::number::value_after` reads the value where its key was found.
 use borrow.Author.Needs.{needs}
-use Rattle.sheet.proofs.number.value_after.Statement.{statement}
-use Rattle.sheet.proofs.number.value_after.Tie as tie
+use Rattle.sheet.proofs.line.value_after.Statement.{statement}
+use Rattle.sheet.proofs.line.value_after.Tie as tie
 
 enum-known-next : tie.Need-enum-known-next
 enum-known-next c = search needs

@@ -4,11 +4,11 @@ use Prim.Native.Nat.{_≤_, _-_}
 use native.Mathlib.Omega.{arith}
 use borrow.Author.Needs.{needs}
 use lib.ListN.{length, drop}
-use Rattle.sheet.specs.Line.{keyAt}
-use Rattle.sheet.proofs.Numbers.{byte-inside}
-use Rattle.sheet.proofs.Lines.{key-goes-on, key-differs, key-ends}
-use Rattle.sheet.proofs.number.key_at.Statement.{statement}
-use Rattle.sheet.proofs.number.key_at.Tie as tie
+use Rattle.number.specs.Text.{keyAt}
+use Rattle.number.proofs.Numbers.{byte-inside}
+use Rattle.number.proofs.Keys.{key-goes-on, key-differs, key-ends}
+use Rattle.number.proofs.key_at.Statement.{statement}
+use Rattle.number.proofs.key_at.Tie as tie
 
 abbrev Inv-loop : tie.InvT-loop
 Inv-loop s at key i₀ j₀ i j = (j ≤ length key) × (keyAt key s at ≡ keyAt (drop j key) s i)

@@ -5,9 +5,9 @@ use borrow.Author.Needs.{needs}
 use borrow.Author.Tests.{eq-eqb, ne-eqb}
 use lib.Dec.{lit<}
 use Rattle.sheet.specs.Line.{valueAt}
-use Rattle.sheet.proofs.Numbers.{byte-inside}
-use Rattle.sheet.proofs.number.value_at.Statement.{statement}
-use Rattle.sheet.proofs.number.value_at.Tie as tie
+use Rattle.number.proofs.Numbers.{byte-inside}
+use Rattle.sheet.proofs.line.value_at.Statement.{statement}
+use Rattle.sheet.proofs.line.value_at.Tie as tie
 
 number-at-requires : tie.Need-number-at-requires
 number-at-requires c κs = search needs

@@ -14,9 +14,9 @@ use mir.Syntax.{w64}
 use mir.Val.{SFits, toZ}
 use mir.ValLaws.{toZ-pos}
 use Rattle.exact.proofs.Bits.{Is, held, literal, is-less, fits, gives}
-use Rattle.sheet.specs.Text.{byteAt}
-use Rattle.sheet.specs.Number.{digitOf, digitAt, moreDigits}
-use Rattle.sheet.specs.declared.number.Digits.the-variants.{Natural}
+use Rattle.number.specs.Text.{byteAt}
+use Rattle.number.specs.Number.{digitOf, digitAt, moreDigits}
+use Rattle.number.specs.declared.digits.Digits.the-variants.{Natural}
 
 -- inside a text it does not matter what stands past its end
 pub inside-same : (s : List ℕ) (i d e : ℕ) → i < length s → getD s i d ≡ getD s i e

@@ -3,10 +3,10 @@ use mathlib.Core.Path.{_∙_}
 use native.Mathlib.Omega.{arith}
 use borrow.Author.Needs.{needs}
 use borrow.Author.Tests.{eq-eqb, ne-eqb}
-use Rattle.sheet.specs.Number.{naturalAt}
-use Rattle.sheet.proofs.Numbers.{digit-inside}
-use Rattle.sheet.proofs.number.natural_at.Statement.{statement}
-use Rattle.sheet.proofs.number.natural_at.Tie as tie
+use Rattle.number.specs.Number.{naturalAt}
+use Rattle.number.proofs.Numbers.{digit-inside}
+use Rattle.number.proofs.digits.natural_at.Statement.{statement}
+use Rattle.number.proofs.digits.natural_at.Tie as tie
 
 digit-at-requires : tie.Need-digit-at-requires
 digit-at-requires c κs = search needs

@@ -1,8 +1,8 @@
 -- `sheet::number::positive` is the number that its digits say.
 use borrow.Author.Needs.{needs}
-use Rattle.sheet.proofs.Numbers.{positive-is}
-use Rattle.sheet.proofs.number.positive.Statement.{statement}
-use Rattle.sheet.proofs.number.positive.Tie as tie
+use Rattle.number.proofs.Numbers.{positive-is}
+use Rattle.number.proofs.digits.positive.Statement.{statement}
+use Rattle.number.proofs.digits.positive.Tie as tie
 
 cast-result : tie.Need-cast-result
 cast-result c = search needs

@@ -1,8 +1,8 @@
 -- `sheet::number::negative` is the number that its digits say behind a minus.
 use borrow.Author.Needs.{needs}
-use Rattle.sheet.proofs.Numbers.{negative-fits, negative-is}
-use Rattle.sheet.proofs.number.negative.Statement.{statement}
-use Rattle.sheet.proofs.number.negative.Tie as tie
+use Rattle.number.proofs.Numbers.{negative-fits, negative-is}
+use Rattle.number.proofs.digits.negative.Statement.{statement}
+use Rattle.number.proofs.digits.negative.Tie as tie
 
 cast-z : tie.Need-cast-z
 cast-z c = search needs

@@ -5,11 +5,11 @@ use Prim.Native.Nat.{ℕ, zero, suc, _+_, _-_, _*_, _<_}
 use lib.Dec.{ltb, eqb}
 use lib.IntN.{ℤ, pos, negℤ}
 use Rattle.exact.specs.Choice.{if_then_else_}
-use Rattle.sheet.specs.declared.number.Digits.{Digits}
-use Rattle.sheet.specs.declared.number.Digits.the-variants.{Natural, NoDigits}
-use Rattle.sheet.specs.declared.number.Number.{Number}
-use Rattle.sheet.specs.declared.number.Number.the-variants.{Got, Bad}
-use Rattle.sheet.specs.Text.{byteAt}
+use Rattle.number.specs.declared.digits.Digits.{Digits}
+use Rattle.number.specs.declared.digits.Digits.the-variants.{Natural, NoDigits}
+use Rattle.number.specs.declared.Number.{Number}
+use Rattle.number.specs.declared.Number.the-variants.{Got, Bad}
+use Rattle.number.specs.Text.{byteAt}
 
 -- what the byte at a place says as a digit, or 10 where it is none
 abbrev pub digitOf : ℕ → ℕ

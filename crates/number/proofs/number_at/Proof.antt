@@ -5,11 +5,11 @@ use borrow.Author.Needs.{needs}
 use borrow.Author.Tests.{eq-eqb, ne-eqb}
 use lib.Dec.{lit<}
 use lib.IntN.{ℤ}
-use Rattle.sheet.specs.Number.{numberAt, Small}
-use Rattle.sheet.specs.declared.number.Number.the-variants.{Got}
-use Rattle.sheet.proofs.Numbers.{byte-inside}
-use Rattle.sheet.proofs.number.number_at.Statement.{statement}
-use Rattle.sheet.proofs.number.number_at.Tie as tie
+use Rattle.number.specs.Number.{numberAt, Small}
+use Rattle.number.specs.declared.Number.the-variants.{Got}
+use Rattle.number.proofs.Numbers.{byte-inside}
+use Rattle.number.proofs.number_at.Statement.{statement}
+use Rattle.number.proofs.number_at.Tie as tie
 
 byte-at-requires : tie.Need-byte-at-requires
 byte-at-requires c κs = search needs

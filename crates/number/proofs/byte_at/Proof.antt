@@ -3,9 +3,9 @@ use mathlib.Core.Path.{sym}
 use native.Mathlib.Omega.{arith}
 use borrow.Author.Needs.{needs}
 use lib.ListN.{List·getD-eq-default}
-use Rattle.sheet.proofs.Numbers.{inside-same}
-use Rattle.sheet.proofs.number.byte_at.Statement.{statement}
-use Rattle.sheet.proofs.number.byte_at.Tie as tie
+use Rattle.number.proofs.Numbers.{inside-same}
+use Rattle.number.proofs.byte_at.Statement.{statement}
+use Rattle.number.proofs.byte_at.Tie as tie
 
 shared-slice-read-result : tie.Need-shared-slice-read-result
 shared-slice-read-result c = search needs
