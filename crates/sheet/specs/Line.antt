@@ -1,6 +1,6 @@
 -- Keys and their numbers at a place of a text, and a line of them.
 use mathlib.Core.Path.{_≡_}
-use mathlib.Core.Bool.{Bool, true, false, _||_}
+use mathlib.Core.Bool.{Bool, true, false, _&&_, _||_}
 use mathlib.Core.List.{List, [], _∷_, _++_}
 use Prim.Native.Nat.{ℕ, zero, suc, _+_, _-_, _<_}
 use lib.Dec.{eqb}
@@ -78,6 +78,12 @@ lineAt first n s at = andThen (afterFields first n s at) (lineFeed s)
 -- a block ends at the end of input or at an empty line
 unfoldable pub closes : List ℕ → ℕ → Bool
 closes s at = eqb (byteAt s at) 256 || eqb (byteAt s at) 10
+
+-- the first n bytes end with an empty line: an LF alone, or behind another
+abbrev pub endsEmpty : List ℕ → ℕ → Bool
+endsEmpty s zero = false
+endsEmpty s (suc zero) = eqb (byteAt s 0) 10
+endsEmpty s (suc (suc n)) = eqb (byteAt s (suc n)) 10 && eqb (byteAt s n) 10
 
 -- the first `count` of an array of `total` are f's, and the rest are d
 abbrev pub filled {ℓ} : {A : Type ℓ} → (count total : ℕ) → (ℕ → A) → A → List A

@@ -2,6 +2,7 @@
 ghost use mathlib.Core.Path.{_≡_};
 ghost use lib.ListN.{length};
 ghost use Rattle.tariff.specs.Reply.{told};
+ghost use Rattle.sheet.specs.Line.{endsEmpty};
 ghost use Rattle.sheet.specs.Block.{blockOf, replyTo, rowTo, hourSaid, countSaid};
 use tariff::Answer;
 use tariff::Check;
@@ -44,4 +45,20 @@ pub fn said_by(block: &[u8]) -> Said
         hour: hour.hour,
         n: hour.n,
     }
+}
+
+// Whether the first n bytes end with an empty line, so that the block in front is whole.
+pub fn is_whole(text: &[u8], n: usize) -> bool
+    ensures { λ r. ⌜ r ≡ endsEmpty (now (text .entry)) n ⌝ }
+{
+    if n == 0 {
+        return false;
+    }
+    if number::byte_at(text, n - 1) != 10 {
+        return false;
+    }
+    if n == 1 {
+        return true;
+    }
+    if number::byte_at(text, n - 2) == 10 { true } else { false }
 }
