@@ -4,7 +4,7 @@ ghost use Rattle.tariff.specs.Reply.{numberOf, placeOf};
 use libc::STDOUT_FILENO;
 use tariff::Check;
 
-// The number of a check in document 01's table, and its place.
+// The text of a check in document 01's table, and its place.
 pub fn number_of(check: Check) -> u64
     ensures { λ r. ⌜ r ≡ numberOf check ⌝ }
 {

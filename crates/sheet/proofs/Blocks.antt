@@ -7,11 +7,11 @@ use borrow.Author.Tests.{eq-eqb, ne-eqb}
 use lib.IntN.{ℤ}
 use Rattle.tariff.specs.declared.Curve.{Curve}
 use Rattle.tariff.specs.declared.DayAhead.{DayAhead}
-use Rattle.number.specs.declared.Next.the-variants.{At, Wrong}
+use Rattle.text.specs.declared.Next.the-variants.{At, Wrong}
 use Rattle.sheet.specs.declared.block.RowsRead.{RowsRead}
 use Rattle.sheet.specs.declared.block.BlockRead.{BlockRead}
 use Rattle.sheet.specs.Line.{valueIn, lineAt}
-use Rattle.sheet.specs.Block.{aheadOf, curveLine, curveOf, RowsReadAt, broken, read, blockAt, blockTold}
+use Rattle.sheet.specs.Block.{aheadOf, curveLine, curveOf, RowsReadAt, broken, read, blockAt, blockOf, blockTold}
 
 module _ (s : List ℕ) (from : ℕ) where
   -- the code names a line
@@ -42,3 +42,13 @@ module _ (s : List ℕ) (from : ℕ) where
             → read (record { hour = hour; ahead = ahead; da = da; rt = rt; n = rows .n; iv = rows .iv }) ≡ blockAt s from
         unfolding blockAt
         block-read hour ahead da rt z a b c d = rw (e1, e2, e3, ← h .told, eq-eqb (rows .broken) 0 z, a, b, c, d, h .rows z)
+
+-- what the code's reading says of a block that is lent
+module _ (s : List ℕ) (r : BlockRead) (e : blockTold r ≡ blockAt s 0) where
+  pub block-broken : (r .broken ≡ 0 → ⊥) → blockOf s ≡ broken (r .broken)
+  unfolding blockOf
+  block-broken n = rw (← e, ne-eqb (r .broken) 0 n)
+
+  pub block-is : r .broken ≡ 0 → blockOf s ≡ read (r .hour)
+  unfolding blockOf
+  block-is z = rw (← e, eq-eqb (r .broken) 0 z)

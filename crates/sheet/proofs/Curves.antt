@@ -20,8 +20,8 @@ use Rattle.exact.proofs.Order.{le-not-lt}
 use Rattle.tariff.specs.Units.{kw}
 use Rattle.tariff.specs.Sheet.{liesIn}
 use Rattle.tariff.proofs.Tests.{and-right}
-use Rattle.number.specs.declared.Next.{Next}
-use Rattle.number.specs.declared.Next.the-variants.{At, Wrong}
+use Rattle.text.specs.declared.Next.{Next}
+use Rattle.text.specs.declared.Next.the-variants.{At, Wrong}
 use Rattle.sheet.specs.declared.block.Pairs.{Pairs}
 use Rattle.sheet.specs.declared.block.CurveRead.{CurveRead}
 use Rattle.sheet.specs.Line.{andThen, afterFields, valueIn, lineFeed}

@@ -10,11 +10,11 @@ use lib.IntN.{ℤ, pos}
 use lib.ListN.{length, getD, set, replicate, length-set}
 use lib.Seq.{getD-set-same, getD-set-other}
 use Rattle.sheet.specs.Keys.{keyOf}
-use Rattle.number.specs.Text.{keyAt}
+use Rattle.text.specs.Text.{keyAt}
 use Rattle.sheet.specs.Line.{valueAfter, fieldAt, placeOf, valueOf, afterFields, valueIn, FieldsRead}
-use Rattle.number.specs.declared.Number.the-variants.{Got, Bad}
-use Rattle.number.specs.declared.Next.{Next}
-use Rattle.number.specs.declared.Next.the-variants.{At, Wrong}
+use Rattle.text.specs.declared.Number.the-variants.{Got, Bad}
+use Rattle.text.specs.declared.Next.{Next}
+use Rattle.text.specs.declared.Next.the-variants.{At, Wrong}
 
 -- a value on a list of itself
 getD-same {ℓ} : {A : Type ℓ} (n k : ℕ) (a : A) → getD (replicate n a) k a ≡ a
@@ -22,7 +22,7 @@ getD-same zero k a = refl
 getD-same (suc n) zero a = refl
 getD-same (suc n) (suc k) a = getD-same n k a
 
--- ---- the table of keys, number by number
+-- ---- the table of keys, text by number
 pub key-same : (k n : ℕ) (s : List ℕ) (at : ℕ) {r : Next} → k ≡ n → r ≡ keyAt (keyOf n) s at → r ≡ keyAt (keyOf k) s at
 key-same k n s at e h = h ∙ ap (λ (m : ℕ). keyAt (keyOf m) s at) (sym e)
 

@@ -14,8 +14,8 @@ use Rattle.exact.specs.Whole.{upTo}
 use Rattle.exact.proofs.Parts.{by-test}
 use Rattle.tariff.specs.declared.Interval.{Interval}
 use Rattle.tariff.specs.Hour.{blank}
-use Rattle.number.specs.declared.Next.{Next}
-use Rattle.number.specs.declared.Next.the-variants.{At, Wrong}
+use Rattle.text.specs.declared.Next.{Next}
+use Rattle.text.specs.declared.Next.the-variants.{At, Wrong}
 use Rattle.sheet.specs.Line.{andThen, afterFields, valueIn, lineFeed, lineAt, closes, filled}
 use Rattle.sheet.specs.Block.{aheadOf, intervalOf, intervalPlace, intervalFrom, intervalAt, counted, brokenRow, rowsAt, RowsReadAt}
 use Rattle.sheet.proofs.Fill.{fill-next}

@@ -3,7 +3,7 @@ use mathlib.Core.Path.{_≡_}
 use mathlib.Core.List.{List, _++_}
 use Prim.Native.Nat.{ℕ, _+_}
 use lib.ListN.{length}
-use Rattle.number.specs.declared.Next.the-variants.{At}
+use Rattle.text.specs.declared.Next.the-variants.{At}
 use Rattle.sheet.specs.Line.{andThen, lineAt}
 use Rattle.sheet.specs.Block.{curveLine}
 

@@ -19,8 +19,8 @@ use Rattle.tariff.specs.Units.{kw, price, movePrice, seconds}
 use Rattle.tariff.specs.Sheet.{liesIn}
 use Rattle.tariff.specs.Reply.{Reply, refused}
 use Rattle.tariff.specs.Hour.{blank, reply, rowAfter}
-use Rattle.number.specs.declared.Next.{Next}
-use Rattle.number.specs.declared.Next.the-variants.{At, Wrong}
+use Rattle.text.specs.declared.Next.{Next}
+use Rattle.text.specs.declared.Next.the-variants.{At, Wrong}
 use Rattle.sheet.specs.declared.block.Pairs.{Pairs}
 use Rattle.sheet.specs.declared.block.CurveRead.{CurveRead}
 use Rattle.sheet.specs.declared.block.RowsRead.{RowsRead}
@@ -63,7 +63,7 @@ priceIn s at j = pairValue 1 s (afterPairs j s at)
 abbrev pub pairsAt : ℤ → List ℕ → ℕ → Next
 pairsAt n s at = if liesIn (pos 0) (pos 12) n then andThen (afterPairs (over n) s at) (lineFeed s) else Wrong
 
--- the count that the code takes: 13 stands for any number that is not 0 to 12
+-- the count that the code takes: 13 stands for any text that is not 0 to 12
 abbrev pub countOf : ℤ → ℕ
 countOf n = if liesIn (pos 0) (pos 12) n then over n else 13
 

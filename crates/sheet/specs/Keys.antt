@@ -1,8 +1,8 @@
--- The one table of keys, in the order in which the lines print them. A key's number is its place here.
+-- The one table of keys, in the order in which the lines print them. A key's text is its place here.
 use mathlib.Core.List.{List, [], _∷_, _++_}
 use Prim.Native.Nat.{ℕ}
 use lib.ListN.{getD}
-use Rattle.number.specs.Text.{bytes}
+use Rattle.text.specs.Text.{bytes}
 
 -- line 1 of an hour block: keys 0 to 9
 abbrev pub aheadKeys : List (List ℕ)

@@ -3,3 +3,5 @@ pub mod Keys
 pub mod Line
 pub mod Block
 pub mod Apart
+pub mod Closed
+pub mod Examples

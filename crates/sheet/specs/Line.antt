@@ -8,16 +8,16 @@ use lib.ListN.{getD, replicate}
 use lib.IntN.{ℤ, pos}
 use Rattle.exact.specs.Choice.{if_then_else_}
 use Rattle.exact.specs.Whole.{upTo}
-use Rattle.number.specs.declared.Number.{Number}
-use Rattle.number.specs.declared.Number.the-variants.{Got, Bad}
-use Rattle.number.specs.declared.Next.{Next}
-use Rattle.number.specs.declared.Next.the-variants.{At, Wrong}
+use Rattle.text.specs.declared.Number.{Number}
+use Rattle.text.specs.declared.Number.the-variants.{Got, Bad}
+use Rattle.text.specs.declared.Next.{Next}
+use Rattle.text.specs.declared.Next.the-variants.{At, Wrong}
 use Rattle.sheet.specs.declared.line.Fields.{Fields}
-use Rattle.number.specs.Text.{byteAt, keyAt}
-use Rattle.number.specs.Number.{numberAt}
+use Rattle.text.specs.Text.{byteAt, keyAt}
+use Rattle.text.specs.Number.{numberAt}
 use Rattle.sheet.specs.Keys.{keyOf}
 
--- only `uol` may be missing, as a minus alone: read as a number that seven digits cannot say
+-- only `uol` may be missing, as a minus alone: read as a text that seven digits cannot say
 abbrev pub missing : ℤ
 missing = pos 10000000
 
@@ -58,7 +58,7 @@ abbrev pub valueFrom : ℕ → List ℕ → Next → ℤ
 valueFrom k s (At i) = valueOf (fieldAt k s i)
 valueFrom k s Wrong = pos 0
 
--- the value of the field number n of them
+-- the value of the field text n of them
 unfoldable pub valueIn : (first : ℕ) → List ℕ → ℕ → ℕ → ℤ
 valueIn first s at n = valueFrom (first + n) s (afterFields first n s at)
 

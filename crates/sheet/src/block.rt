@@ -6,7 +6,6 @@ ghost use lib.ListN.{getD};
 ghost use Rattle.tariff.specs.Hour.{blank};
 ghost use Rattle.sheet.specs.Block.{aheadOf, uolOf, intervalOf, countOf, PairsRead, CurveReadAt, RowsReadAt, blockAt, blockTold};
 use crate::line;
-use number::Next;
 use tariff::Curve;
 use tariff::DayAhead;
 use tariff::Hour;
@@ -16,6 +15,7 @@ use tariff::MovePrice;
 use tariff::Price;
 use tariff::Seconds;
 use tariff::Uol;
+use text::Next;
 
 // The pairs of a curve line, and the place after them.
 pub struct Pairs {

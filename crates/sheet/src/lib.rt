@@ -54,11 +54,15 @@ pub fn is_whole(text: &[u8], n: usize) -> bool
     if n == 0 {
         return false;
     }
-    if number::byte_at(text, n - 1) != 10 {
+    if text::byte_at(text, n - 1) != 10 {
         return false;
     }
     if n == 1 {
         return true;
     }
-    if number::byte_at(text, n - 2) == 10 { true } else { false }
+    if text::byte_at(text, n - 2) == 10 {
+        true
+    } else {
+        false
+    }
 }

@@ -4,10 +4,10 @@ ghost use Prim.Native.Nat.{ℕ, _+_, _<_, _≤_};
 ghost use lib.IntN.{ℤ, pos};
 ghost use lib.ListN.{getD};
 ghost use Rattle.sheet.specs.Keys.{keyOf};
-ghost use Rattle.number.specs.Text.{keyAt};
+ghost use Rattle.text.specs.Text.{keyAt};
 ghost use Rattle.sheet.specs.Line.{valueAt, valueAfter, fieldAt, andThen, lineFeed, closes, FieldsRead};
-use number::Next;
-use number::Number;
+use text::Next;
+use text::Number;
 
 // Keys 0 to 15: the lines of an hour block.
 fn hour_key(s: &[u8], at: usize, k: usize) -> Next
@@ -15,22 +15,22 @@ fn hour_key(s: &[u8], at: usize, k: usize) -> Next
     ensures { λ r. ⌜ r ≡ keyAt (keyOf k) (now (s .entry)) at ⌝ }
 {
     match k {
-        0 => number::key_at(s, at, b"hour="),
-        1 => number::key_at(s, at, b" en="),
-        2 => number::key_at(s, at, b" reg="),
-        3 => number::key_at(s, at, b" r1="),
-        4 => number::key_at(s, at, b" r2="),
-        5 => number::key_at(s, at, b" r3="),
-        6 => number::key_at(s, at, b" breg="),
-        7 => number::key_at(s, at, b" b1="),
-        8 => number::key_at(s, at, b" b2="),
-        9 => number::key_at(s, at, b" b3="),
-        10 => number::key_at(s, at, b"da="),
-        11 => number::key_at(s, at, b" n="),
-        12 => number::key_at(s, at, b"rt="),
-        13 => number::key_at(s, at, b" n="),
-        14 => number::key_at(s, at, b" to="),
-        _ => number::key_at(s, at, b" at="),
+        0 => text::key_at(s, at, b"hour="),
+        1 => text::key_at(s, at, b" en="),
+        2 => text::key_at(s, at, b" reg="),
+        3 => text::key_at(s, at, b" r1="),
+        4 => text::key_at(s, at, b" r2="),
+        5 => text::key_at(s, at, b" r3="),
+        6 => text::key_at(s, at, b" breg="),
+        7 => text::key_at(s, at, b" b1="),
+        8 => text::key_at(s, at, b" b2="),
+        9 => text::key_at(s, at, b" b3="),
+        10 => text::key_at(s, at, b"da="),
+        11 => text::key_at(s, at, b" n="),
+        12 => text::key_at(s, at, b"rt="),
+        13 => text::key_at(s, at, b" n="),
+        14 => text::key_at(s, at, b" to="),
+        _ => text::key_at(s, at, b" at="),
     }
 }
 
@@ -40,26 +40,26 @@ fn interval_key(s: &[u8], at: usize, k: usize) -> Next
     ensures { λ r. ⌜ r ≡ keyAt (keyOf k) (now (s .entry)) at ⌝ }
 {
     match k {
-        16 => number::key_at(s, at, b"s="),
-        17 => number::key_at(s, at, b" en="),
-        18 => number::key_at(s, at, b" ae="),
-        19 => number::key_at(s, at, b" co="),
-        20 => number::key_at(s, at, b" eop="),
-        21 => number::key_at(s, at, b" pen="),
-        22 => number::key_at(s, at, b" lim="),
-        23 => number::key_at(s, at, b" uol="),
-        24 => number::key_at(s, at, b" r1="),
-        25 => number::key_at(s, at, b" r2="),
-        26 => number::key_at(s, at, b" r3="),
-        27 => number::key_at(s, at, b" p1="),
-        28 => number::key_at(s, at, b" p2="),
-        29 => number::key_at(s, at, b" p3="),
-        30 => number::key_at(s, at, b" reg="),
-        31 => number::key_at(s, at, b" preg="),
-        32 => number::key_at(s, at, b" breg="),
-        33 => number::key_at(s, at, b" mv="),
-        34 => number::key_at(s, at, b" pmv="),
-        _ => number::key_at(s, at, b" bmv="),
+        16 => text::key_at(s, at, b"s="),
+        17 => text::key_at(s, at, b" en="),
+        18 => text::key_at(s, at, b" ae="),
+        19 => text::key_at(s, at, b" co="),
+        20 => text::key_at(s, at, b" eop="),
+        21 => text::key_at(s, at, b" pen="),
+        22 => text::key_at(s, at, b" lim="),
+        23 => text::key_at(s, at, b" uol="),
+        24 => text::key_at(s, at, b" r1="),
+        25 => text::key_at(s, at, b" r2="),
+        26 => text::key_at(s, at, b" r3="),
+        27 => text::key_at(s, at, b" p1="),
+        28 => text::key_at(s, at, b" p2="),
+        29 => text::key_at(s, at, b" p3="),
+        30 => text::key_at(s, at, b" reg="),
+        31 => text::key_at(s, at, b" preg="),
+        32 => text::key_at(s, at, b" breg="),
+        33 => text::key_at(s, at, b" mv="),
+        34 => text::key_at(s, at, b" pmv="),
+        _ => text::key_at(s, at, b" bmv="),
     }
 }
 
@@ -69,28 +69,28 @@ fn other_key(s: &[u8], at: usize, k: usize) -> Next
     ensures { λ r. ⌜ r ≡ keyAt (keyOf k) (now (s .entry)) at ⌝ }
 {
     match k {
-        36 => number::key_at(s, at, b"import="),
-        37 => number::key_at(s, at, b" cts="),
-        38 => number::key_at(s, at, b"hour="),
-        39 => number::key_at(s, at, b" den="),
-        40 => number::key_at(s, at, b" dec="),
-        41 => number::key_at(s, at, b"s="),
-        42 => number::key_at(s, at, b" cut="),
-        43 => number::key_at(s, at, b" prof="),
-        44 => number::key_at(s, at, b" rten="),
-        45 => number::key_at(s, at, b" lbmp="),
-        46 => number::key_at(s, at, b" bid="),
-        47 => number::key_at(s, at, b" def="),
-        48 => number::key_at(s, at, b"form="),
-        49 => number::key_at(s, at, b"unit="),
-        50 => number::key_at(s, at, b"rtc="),
-        51 => number::key_at(s, at, b"cat="),
-        52 => number::key_at(s, at, b"x1="),
-        53 => number::key_at(s, at, b"x2="),
-        54 => number::key_at(s, at, b"x3="),
-        55 => number::key_at(s, at, b"x4="),
-        56 => number::key_at(s, at, b"x5="),
-        _ => number::key_at(s, at, b"x6="),
+        36 => text::key_at(s, at, b"import="),
+        37 => text::key_at(s, at, b" cts="),
+        38 => text::key_at(s, at, b"hour="),
+        39 => text::key_at(s, at, b" den="),
+        40 => text::key_at(s, at, b" dec="),
+        41 => text::key_at(s, at, b"s="),
+        42 => text::key_at(s, at, b" cut="),
+        43 => text::key_at(s, at, b" prof="),
+        44 => text::key_at(s, at, b" rten="),
+        45 => text::key_at(s, at, b" lbmp="),
+        46 => text::key_at(s, at, b" bid="),
+        47 => text::key_at(s, at, b" def="),
+        48 => text::key_at(s, at, b"form="),
+        49 => text::key_at(s, at, b"unit="),
+        50 => text::key_at(s, at, b"rtc="),
+        51 => text::key_at(s, at, b"cat="),
+        52 => text::key_at(s, at, b"x1="),
+        53 => text::key_at(s, at, b"x2="),
+        54 => text::key_at(s, at, b"x3="),
+        55 => text::key_at(s, at, b"x4="),
+        56 => text::key_at(s, at, b"x5="),
+        _ => text::key_at(s, at, b"x6="),
     }
 }
 
@@ -112,14 +112,14 @@ pub fn key_number(s: &[u8], at: usize, k: usize) -> Next
 pub fn value_at(s: &[u8], at: usize, k: usize) -> Number
     ensures { λ r. ⌜ r ≡ valueAt k (now (s .entry)) at ⌝ }
 {
-    let n = number::number_at(s, at);
+    let n = text::number_at(s, at);
     if k != 23 {
         return n;
     }
     if let Number::Got(_, _) = n {
         return n;
     }
-    if number::byte_at(s, at) == 45 {
+    if text::byte_at(s, at) == 45 {
         Number::Got(10000000, at + 1)
     } else {
         Number::Bad
@@ -181,7 +181,7 @@ pub fn line_end(s: &[u8], next: Next) -> Next
     ensures { λ r. ⌜ r ≡ andThen next (lineFeed (now (s .entry))) ⌝ }
 {
     match next {
-        Next::At(at) => number::key_at(s, at, b"\n"),
+        Next::At(at) => text::key_at(s, at, b"\n"),
         Next::Wrong => Next::Wrong,
     }
 }
@@ -190,7 +190,7 @@ pub fn line_end(s: &[u8], next: Next) -> Next
 pub fn is_closed(s: &[u8], at: usize) -> bool
     ensures { λ r. ⌜ r ≡ closes (now (s .entry)) at ⌝ }
 {
-    let b = number::byte_at(s, at);
+    let b = text::byte_at(s, at);
     if b == 256 {
         return true;
     }

@@ -5,7 +5,7 @@ use borrow.Author.Needs.{needs}
 use lib.IntN.{pos}
 use lib.ListN.{getD}
 use Rattle.exact.proofs.Bits.{held}
-use Rattle.number.specs.declared.Next.{Next}
+use Rattle.text.specs.declared.Next.{Next}
 use Rattle.sheet.specs.Line.{afterFields, valueIn}
 use Rattle.sheet.specs.Block.{countOf}
 use Rattle.sheet.proofs.Fill.{held-is}

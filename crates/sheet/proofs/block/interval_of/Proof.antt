@@ -1,4 +1,4 @@
--- `block::interval_of` meets its contract: each value of the array is the number that its bits say.
+-- `block::interval_of` meets its contract: each value of the array is the text that its bits say.
 use mathlib.Core.Path.{ap}
 use borrow.Author.Needs.{needs}
 use lib.Dec.{lit<}

@@ -6,7 +6,7 @@ use borrow.Author.Needs.{needs}
 use lib.IntN.{pos}
 use Rattle.exact.specs.Whole.{upTo}
 use Rattle.tariff.specs.Units.{kw, price}
-use Rattle.number.specs.declared.Next.the-variants.{At}
+use Rattle.text.specs.declared.Next.the-variants.{At}
 use Rattle.sheet.specs.Line.{filled}
 use Rattle.sheet.specs.Block.{afterPairs, endIn, priceIn}
 use Rattle.sheet.proofs.Fill.{held-is, fill-next}

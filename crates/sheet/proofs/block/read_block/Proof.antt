@@ -3,7 +3,7 @@ use mathlib.Core.Path.{_≡_, sym, _∙_}
 use mathlib.Core.List.{List}
 use Prim.Native.Nat.{ℕ}
 use native.Mathlib.Omega.{arith}
-use Rattle.number.specs.declared.Next.the-variants.{At}
+use Rattle.text.specs.declared.Next.the-variants.{At}
 use Rattle.sheet.specs.Line.{lineAt}
 use Rattle.sheet.specs.Block.{curveLine, curveOf}
 use Rattle.sheet.proofs.Fill.{held-is}

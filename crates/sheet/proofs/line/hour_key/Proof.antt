@@ -1,5 +1,5 @@
 -- `sheet::line::hour_key` compares a key of the table: each arm's byte string is the table's key of that number, and the last arm's
--- number is 15, since it is none of the others.
+-- text is 15, since it is none of the others.
 use mathlib.Core.Path.{refl}
 use Prim.Native.Nat.{zero-le}
 use native.Mathlib.Omega.{arith}

@@ -1,5 +1,5 @@
 -- `sheet::line::interval_key` compares a key of the table: each arm's byte string is the table's key of that number, and the last arm's
--- number is 35, since it is none of the others.
+-- text is 35, since it is none of the others.
 use mathlib.Core.Path.{refl}
 use native.Mathlib.Omega.{arith}
 use Rattle.sheet.proofs.Lines.{key-same, none-from}

@@ -1,4 +1,4 @@
--- `sheet::number::value_after` reads the value where its key was found.
+-- `sheet::text::value_after` reads the value where its key was found.
 use borrow.Author.Needs.{needs}
 use Rattle.sheet.proofs.line.value_after.Statement.{statement}
 use Rattle.sheet.proofs.line.value_after.Tie as tie

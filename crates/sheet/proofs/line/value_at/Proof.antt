@@ -1,11 +1,11 @@
--- `sheet::number::value_at` reads the number behind a key, and behind key 23 also a minus alone.
+-- `sheet::text::value_at` reads the text behind a key, and behind key 23 also a minus alone.
 use mathlib.Core.Path.{_∙_, sym}
 use native.Mathlib.Omega.{arith}
 use borrow.Author.Needs.{needs}
 use borrow.Author.Tests.{eq-eqb, ne-eqb}
 use lib.Dec.{lit<}
 use Rattle.sheet.specs.Line.{valueAt}
-use Rattle.number.proofs.Numbers.{byte-inside}
+use Rattle.text.proofs.Numbers.{byte-inside}
 use Rattle.sheet.proofs.line.value_at.Statement.{statement}
 use Rattle.sheet.proofs.line.value_at.Tie as tie
 

@@ -1,3 +1,0 @@
--- Laws that the proofs of the crate's functions cite.
-pub mod Numbers
-pub mod Keys

@@ -1,0 +1,81 @@
+-- What stands behind a block's empty line is not read, and the end of the text closes a block as the empty line does.
+use mathlib.Core.Path.{_≡_, refl, sym, ap, fun-ext, _∙_}
+use mathlib.Core.List.{List, [], _∷_, _++_, append-assoc}
+use Prim.Native.Nat.{ℕ, _+_}
+use native.Mathlib.Nat.{zero-add}
+use native.Mathlib.Omega.{arith}
+use lib.IntN.{ℤ}
+use lib.ListN.{length, length-append, List·getD-append, List·getD-eq-default}
+use lib.Seq.{append-snoc, getD-append-seam}
+use Rattle.tariff.specs.declared.Curve.{Curve}
+use Rattle.text.specs.Text.{byteAt, keyAt}
+use Rattle.sheet.specs.Line.{fieldAt, afterFields, lineAt, valueIn}
+use Rattle.sheet.specs.Block.{intervalAt, Rows, counted, brokenRow, rowsAt, broken, withRows, afterLine1, afterLine2, afterLine3, blockAt, blockOf}
+use Rattle.sheet.specs.Closed.{Closed, atOnce, afterLine}
+use Rattle.text.specs.declared.Next.{Next}
+use Rattle.sheet.proofs.Along.{closing, Moved, both, neither}
+use Rattle.sheet.proofs.AlongBlock.{Ended, line-ended, values-ended, curve-line-ended, curve-ended, intervals-ended, rows-ended}
+
+-- the rest of a block, from its counted lines
+pub rest-same : (v : ℕ → ℤ) (da rt : Curve) (s t : List ℕ) (a b : ℕ) (r : Rows) → intervalAt s a ≡ intervalAt t b → withRows v da rt s a r ≡ withRows v da rt t b r
+rest-same v da rt s t a b (counted n) e = rw e
+rest-same v da rt s t a b (brokenRow line) e = refl
+
+-- two texts that are the same up to the end of the block
+module _ {s t : List ℕ} {m : ℕ} (o : Ended s t 0 0 m) where
+  after3-ended : {a b : Next} → Moved 0 0 (m + 1) a b → (v : ℕ → ℤ) (da rt : Curve) → afterLine3 a v da rt s ≡ afterLine3 b v da rt t
+  after3-ended (both j h) v da rt = rw (rows-ended o 30 j 0 h) (rest-same v da rt s t (0 + j) (0 + j) (rowsAt 30 t (0 + j) 0) (intervals-ended o j h))
+  after3-ended neither v da rt = refl
+
+  after2-ended : {a b : Next} → Moved 0 0 (m + 1) a b → (v : ℕ → ℤ) (da : Curve) → afterLine2 a v da s ≡ afterLine2 b v da t
+  after2-ended (both j h) v da = rw (curve-ended o 12 refl j h) (after3-ended (curve-line-ended o 12 refl j h) v da _)
+  after2-ended neither v da = refl
+
+  line1-ended : valueIn 0 s 0 ≡ valueIn 0 t 0
+  line1-ended = fun-ext (λ n. values-ended o 0 n refl 0 (omega arith))
+
+  after1-ended : {a b : Next} → Moved 0 0 (m + 1) a b → afterLine1 a s 0 ≡ afterLine1 b t 0
+  after1-ended (both j h) = rw (line1-ended, curve-ended o 10 refl j h) (after2-ended (curve-line-ended o 10 refl j h) _ _)
+  after1-ended neither = refl
+
+  block-ended : blockOf s ≡ blockOf t
+  unfolding blockOf blockAt
+  block-ended = after1-ended (line-ended o 0 9 refl 0 (omega arith))
+
+-- ---- the empty line, and the end of the text
+module _ (front behind : List ℕ) where
+  abbrev lines : List ℕ
+  lines = front ++ (10 ∷ [])
+
+  long : length lines ≡ length front + 1
+  long = length-append front (10 ∷ [])
+
+  last-feed : byteAt (lines ++ (10 ∷ behind)) (0 + length front) ≡ 10
+  last-feed = rw zero-add (List·getD-append lines (10 ∷ behind) 256 (length front) (omega (arith, long)) ∙ getD-append-seam front 10 [] 256)
+
+  next-feed : byteAt (lines ++ (10 ∷ behind)) (0 + (length front + 1)) ≡ 10
+  next-feed = rw (zero-add, ← long) (getD-append-seam lines 10 behind 256)
+
+  text-ends : byteAt lines (0 + (length front + 1)) ≡ 256
+  text-ends = List·getD-eq-default lines 256 (omega (arith, long))
+
+  lines-ended : Ended (lines ++ (10 ∷ behind)) lines 0 0 (length front)
+  lines-ended = record {
+    along = record { same = λ i h. List·getD-append lines (10 ∷ behind) 256 (0 + i) (omega (arith, long)); stop = ap closing last-feed };
+    one = ap closing next-feed;
+    other = ap closing text-ends;
+  }
+
+  pub closed-or-ended : blockOf (front ++ (10 ∷ 10 ∷ behind)) ≡ blockOf (front ++ (10 ∷ []))
+  closed-or-ended = ap blockOf (sym (append-snoc front 10 (10 ∷ behind))) ∙ block-ended lines-ended
+
+pub empty-at-once : (behind : List ℕ) → blockOf (10 ∷ behind) ≡ broken 1
+unfolding blockOf blockAt lineAt afterFields fieldAt keyAt
+empty-at-once behind = refl
+
+pub not-read : (s behind : List ℕ) → Closed s → blockOf (s ++ behind) ≡ blockOf s
+not-read s behind (atOnce more) = empty-at-once (more ++ behind) ∙ sym (empty-at-once more)
+not-read s behind (afterLine front more) =
+    ap blockOf (append-assoc front (10 ∷ 10 ∷ more) behind)
+    ∙ closed-or-ended front (more ++ behind)
+    ∙ sym (closed-or-ended front more)

@@ -1,0 +1,7 @@
+-- A text that holds an empty line: the block that begins it ends there.
+use mathlib.Core.List.{List, _∷_, _++_}
+use Prim.Native.Nat.{ℕ}
+
+pub data Closed : List ℕ → Type 0 where
+  atOnce : (behind : List ℕ) → Closed (10 ∷ behind)
+  afterLine : (front behind : List ℕ) → Closed (front ++ (10 ∷ 10 ∷ behind))

@@ -1,0 +1,72 @@
+-- `sheet::text::more_digits` reads up to six digits more. The loop's invariant: the whole is what v says so far and then the rest from
+-- here, and v has as many digits as are read.
+use mathlib.Core.Path.{_≡_, refl, sym, _∙_}
+use Prim.Native.Nat.{_<_, _≤_, _-_, _^_}
+use native.Mathlib.Omega.{arith}
+use borrow.Author.Needs.{needs}
+use Rattle.text.specs.Number.{moreDigits}
+use Rattle.text.proofs.Numbers.{digit-inside, more-stops, more-ends, more-goes-on, digits-more, digits-fit}
+use Rattle.text.proofs.digits.more_digits.Statement.{statement}
+use Rattle.text.proofs.digits.more_digits.Tie as tie
+
+abbrev Inv-loop : tie.InvT-loop
+Inv-loop s at first v₀ i₀ left₀ v i left = (moreDigits 6 first s at ≡ moreDigits left v s i) × (v < 10 ^ (7 - left)) × (left ≤ 6)
+
+abbrev μ-loop : tie.MeasureT-loop
+μ-loop s at first v₀ i₀ left₀ v i left = left
+
+loop-holds : tie.Need-loop-holds Inv-loop μ-loop
+loop-holds c = (refl, c .before .pre, omega arith)
+
+digit-at-requires : tie.Need-digit-at-requires Inv-loop μ-loop
+digit-at-requires c κs = search needs
+
+returns : tie.Need-returns Inv-loop μ-loop
+returns c =
+    let l = c .before .before .before .loop in
+    (sym (l .inv .0 ∙ more-stops _ _ _ _ (sym (c .before .digit-at .ensures .0) ∙ c .if1 .taken)), digits-fit _ _ (l .inv .1))
+
+mul-v : tie.Need-mul-v Inv-loop μ-loop
+mul-v c = omega (arith, digits-fit _ _ (c .before .before .before .loop .inv .1))
+
+add-v : tie.Need-add-v Inv-loop μ-loop
+add-v c = omega (arith, digits-fit _ _ (c .before .before .before .loop .inv .1))
+
+add-i : tie.Need-add-i Inv-loop μ-loop
+add-i c = omega (arith, digit-inside _ _ (λ e. c .if1 .left (c .before .digit-at .ensures .0 ∙ e)))
+
+sub-left : tie.Need-sub-left Inv-loop μ-loop
+sub-left c = search needs
+
+loop-less : tie.Need-loop-less Inv-loop μ-loop
+loop-less c = search needs
+
+loop-again : tie.Need-loop-again Inv-loop μ-loop
+loop-again c =
+    let l = c .before .before .before .loop in
+    let d = c .before .digit-at in
+    let more = c .before .before .loop-test .taken in (
+      rw (d .ensures .0) (l .inv .0 ∙ more-goes-on _ _ _ _ more (λ e. c .if1 .left (d .ensures .0 ∙ e))),
+      digits-more _ _ _ more (l .inv .2) (l .inv .1) (omega arith),
+      omega arith,
+    )
+
+returns-2 : tie.Need-returns-2 Inv-loop μ-loop
+returns-2 c = (sym (c .before .loop .inv .0 ∙ more-ends _ _ _ _ (c .loop-test .left)), digits-fit _ _ (c .before .loop .inv .1))
+
+pub more-digits-spec : {M : Type 1} → statement M
+more-digits-spec =
+    tie.close
+    (tie.spec
+    Inv-loop
+    μ-loop
+    loop-holds
+    digit-at-requires
+    returns
+    mul-v
+    add-v
+    add-i
+    sub-left
+    loop-less
+    loop-again
+    returns-2)

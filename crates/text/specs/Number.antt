@@ -1,0 +1,50 @@
+-- A text has an optional minus and one to seven digits, without leading zeros and without -0.
+use mathlib.Core.Bool.{Bool, true, false}
+use mathlib.Core.List.{List}
+use Prim.Native.Nat.{ℕ, zero, suc, _+_, _-_, _*_, _<_}
+use lib.Dec.{ltb, eqb}
+use lib.IntN.{ℤ, pos, negℤ}
+use Rattle.exact.specs.Choice.{if_then_else_}
+use Rattle.text.specs.declared.digits.Digits.{Digits}
+use Rattle.text.specs.declared.digits.Digits.the-variants.{Natural, NoDigits}
+use Rattle.text.specs.declared.Number.{Number}
+use Rattle.text.specs.declared.Number.the-variants.{Got, Bad}
+use Rattle.text.specs.Text.{byteAt}
+
+-- what the byte at a place says as a digit, or 10 where it is none
+abbrev pub digitOf : ℕ → ℕ
+digitOf b = if ltb b 48 then 10 else (if ltb 57 b then 10 else b - 48)
+
+unfoldable pub digitAt : List ℕ → ℕ → ℕ
+digitAt s at = digitOf (byteAt s at)
+
+-- up to `left` digits more, after digits that say v
+unfoldable pub moreDigits : (left v : ℕ) → List ℕ → ℕ → Digits
+moreDigits zero v s at = Natural v at
+moreDigits (suc left) v s at =
+    let rest = moreDigits left (v * 10 + digitAt s at) s (at + 1) in
+    if eqb (digitAt s at) 10 then Natural v at else rest
+
+-- a zero alone, or a digit from 1 to 9 and up to six more. What follows is the next reader's
+unfoldable pub naturalAt : List ℕ → ℕ → Digits
+naturalAt s at =
+    if eqb (digitAt s at) 10
+    then NoDigits
+    else (if eqb (digitAt s at) 0 then Natural 0 (at + 1) else moreDigits 6 (digitAt s at) s (at + 1))
+
+abbrev pub plain : Digits → Number
+plain (Natural v next) = Got (pos v) next
+plain NoDigits = Bad
+
+-- behind a minus: no zero
+abbrev pub negative : Digits → Number
+negative (Natural v next) = if eqb v 0 then Bad else Got (negℤ (pos v)) next
+negative NoDigits = Bad
+
+unfoldable pub numberAt : List ℕ → ℕ → Number
+numberAt s at = if eqb (byteAt s at) 45 then negative (naturalAt s (at + 1)) else plain (naturalAt s at)
+
+-- at most seven digits
+abbrev pub Small : Digits → Type 0
+Small (Natural v next) = v < 10000000
+Small NoDigits = Unit {0}

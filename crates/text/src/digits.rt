@@ -1,0 +1,75 @@
+// Digits at a place of a text, and their sign.
+ghost use mathlib.Core.Path.{_≡_};
+ghost use Prim.Native.Nat.{_<_, _≤_};
+ghost use lib.IntN.{pos, negℤ};
+ghost use Rattle.text.specs.Number.{digitAt, moreDigits, naturalAt, Small};
+use crate::byte_at;
+
+// Digits and the place after them, or none.
+pub enum Digits {
+    Natural(u64, usize),
+    NoDigits,
+}
+
+// The digit at a place, or 10 where there is none.
+pub fn digit_at(s: &[u8], at: usize) -> u64
+    ensures { λ r. ⌜ (r ≡ digitAt (now (s .entry)) at) × (r ≤ 10) ⌝ }
+{
+    let b = byte_at(s, at);
+    if b < 48 {
+        return 10;
+    }
+    if 57 < b {
+        return 10;
+    }
+    b - 48
+}
+
+// Up to six digits more, after a first one.
+pub fn more_digits(s: &[u8], at: usize, first: u64) -> Digits
+    requires { ⌜ first < 10 ⌝ }
+    ensures { λ r. ⌜ (r ≡ moreDigits 6 first (now (s .entry)) at) × Small r ⌝ }
+{
+    let mut v = first;
+    let mut i = at;
+    let mut left: u64 = 6;
+    while 0 < left {
+        let d = digit_at(s, i);
+        if d == 10 {
+            return Digits::Natural(v, i);
+        }
+        v = v * 10 + d;
+        i += 1;
+        left -= 1;
+    }
+    Digits::Natural(v, i)
+}
+
+// One to seven digits with no leading zero.
+pub fn natural_at(s: &[u8], at: usize) -> Digits
+    ensures { λ r. ⌜ (r ≡ naturalAt (now (s .entry)) at) × Small r ⌝ }
+{
+    let d = digit_at(s, at);
+    if d == 10 {
+        return Digits::NoDigits;
+    }
+    if d == 0 {
+        return Digits::Natural(0, at + 1);
+    }
+    more_digits(s, at + 1, d)
+}
+
+pub fn positive(v: u64) -> i64
+    requires { ⌜ v < 10000000 ⌝ }
+    ensures { λ r. ⌜ r ≡ pos v ⌝ }
+{
+    v as i64
+}
+
+pub fn negative(v: u64) -> i64
+    requires { ⌜ v < 10000000 ⌝ }
+    ensures { λ r. ⌜ r ≡ negℤ (pos v) ⌝ }
+{
+    let z = v as i64;
+    -z
+}
