@@ -1,17 +1,17 @@
 -- Two texts with the same bytes, each from a place of its own on, up to a line's end: what is read there is the same, moved.
 use mathlib.Core.Path.{_≡_, refl, sym, ap, _∙_}
-use mathlib.Core.Bool.{Bool, true, false, _||_, false≢true}
+use mathlib.Core.Bool.{Bool, true, false, not, _&&_, _||_, false≢true}
 use mathlib.Core.List.{List, [], _∷_}
 use Prim.Native.Nat.{ℕ, zero, suc, _+_, _≤_, _<_}
 use native.Mathlib.Decide.{decLt}
-use native.Mathlib.Nat.{add-assoc}
+use native.Mathlib.Nat.{add-assoc, not-suc-le-zero, le-of-suc-le-suc}
 use native.Mathlib.Omega.{arith}
-use borrow.Author.Tests.{eqb-true, eqb-false, ne-eqb}
+use borrow.Author.Tests.{eqb-true, eqb-false, ne-eqb, not-true}
 use lib.Dec.{eqb}
 use lib.IntN.{ℤ, pos, negℤ}
-use lib.ListN.{getD}
+use lib.ListN.{length, getD, List·getD-eq-default}
 use Rattle.exact.specs.Choice.{if_then_else_}
-use Rattle.exact.proofs.Parts.{by-test}
+use Rattle.tariff.proofs.Tests.{and-left, and-right}
 use Rattle.text.specs.Text.{byteAt, keyAt}
 use Rattle.text.specs.Number.{digitOf, digitAt, moreDigits, naturalAt, plain, negative, numberAt}
 use Rattle.sheet.specs.Keys.{keys, keyOf}
@@ -45,6 +45,9 @@ pub data DigitsMoved (p q m : ℕ) : Digits → Digits → Type 0 where
 pub data NumberMoved (p q m : ℕ) : Number → Number → Type 0 where
   numbers : (v : ℤ) (j : ℕ) → j ≤ m → NumberMoved p q m (Got v (p + j)) (Got v (q + j))
   bad : NumberMoved p q m Bad Bad
+
+pub never-at : {i : ℕ} → Wrong ≡ At i → ⊥
+never-at e = let z : _≡_ {A = ℕ} 0 1 = cc in omega arith
 
 -- two choices by one test
 pub choose : {A : Type 0} (R : A → A → Type 0) (x : Bool) {a b c d : A} → (x ≡ true → R a b) → (x ≡ false → R c d) → R (if x then a else c) (if x then b else d)
@@ -80,29 +83,30 @@ not-closing b h k = rw (ne-eqb b 256 h, ne-eqb b 10 k)
 digit-open : (b : ℕ) → (digitOf b ≡ 10 → ⊥) → closing b ≡ false
 digit-open b h = not-closing b (λ e. h (ap digitOf e)) (λ e. h (ap digitOf e))
 
--- a key that ends no line: each of the table
+-- a test of each key of a table
+abbrev pub allOf : (List ℕ → Bool) → List (List ℕ) → Bool
+allOf test [] = true
+allOf test (key ∷ rest) = test key && allOf test rest
+
+pub table-at : (test : List ℕ → Bool) (table : List (List ℕ)) (k : ℕ) → k < length table → allOf test table ≡ true → test (getD table k []) ≡ true
+table-at test [] k h e = absurd (not-suc-le-zero h)
+table-at test (key ∷ rest) zero h e = and-left (test key) (allOf test rest) e
+table-at test (key ∷ rest) (suc k) h e = table-at test rest k (le-of-suc-le-suc h) (and-right (test key) (allOf test rest) e)
+
+-- no key ends a line
 abbrev printed : List ℕ → Bool
 printed [] = true
-printed (k ∷ ks) = if closing k then false else printed ks
-
-abbrev allPrinted : List (List ℕ) → Bool
-allPrinted [] = true
-allPrinted (key ∷ rest) = if printed key then allPrinted rest else false
+printed (k ∷ ks) = not (closing k) && printed ks
 
 printed-first : (k : ℕ) (ks : List ℕ) → printed (k ∷ ks) ≡ true → closing k ≡ false
-printed-first k ks = by-test (closing k) (λ b. (if b then false else printed ks) ≡ true → b ≡ false) (λ h e. absurd (false≢true e)) (λ h e. refl)
-
-printed-rest : (k : ℕ) (ks : List ℕ) → printed (k ∷ ks) ≡ true → printed ks ≡ true
-printed-rest k ks = by-test (closing k) (λ b. (if b then false else printed ks) ≡ true → printed ks ≡ true) (λ h e. absurd (false≢true e)) (λ h e. e)
-
-printed-at : (table : List (List ℕ)) (k : ℕ) → allPrinted table ≡ true → printed (getD table k []) ≡ true
-printed-at [] k e = refl
-printed-at (key ∷ rest) zero e = by-test (printed key) (λ b. (if b then allPrinted rest else false) ≡ true → b ≡ true) (λ h z. refl) (λ h z. z) e
-printed-at (key ∷ rest) (suc k) e =
-    printed-at rest k (by-test (printed key) (λ b. (if b then allPrinted rest else false) ≡ true → allPrinted rest ≡ true) (λ h z. z) (λ h z. absurd (false≢true z)) e)
+printed-first k ks e = not-true (closing k) (and-left (not (closing k)) (printed ks) e)
 
 key-printed : (k : ℕ) → printed (keyOf k) ≡ true
-key-printed k = printed-at keys k refl
+key-printed k = go (decLt k (length keys))
+  where
+    go : Dec (k < length keys) → printed (keyOf k) ≡ true
+    go (yes h) = table-at printed keys k h refl
+    go (no h) = ap printed (List·getD-eq-default keys [] {n = k} (omega arith))
 
 module _ {s t : List ℕ} {p q m : ℕ} (o : Along s t p q m) where
   -- a byte that ends no line stands before the m-th
@@ -161,7 +165,7 @@ module _ {s t : List ℕ} {p q m : ℕ} (o : Along s t p q m) where
   key-along (k ∷ ks) e i h =
       rw (← o .same i h, add-assoc p i 1, add-assoc q i 1)
       (choose (Moved p q m) (eqb (byteAt s (p + i)) k)
-      (λ z. key-along ks (printed-rest k ks e) (i + 1) (goes-on i h (ap closing (eqb-true (byteAt s (p + i)) k z) ∙ printed-first k ks e)))
+      (λ z. key-along ks (and-right (not (closing k)) (printed ks) e) (i + 1) (goes-on i h (ap closing (eqb-true (byteAt s (p + i)) k z) ∙ printed-first k ks e)))
       (λ z. neither))
 
   or-along : {a b : Number} → NumberMoved p q m a b → (i : ℕ) → i ≤ m → NumberMoved p q m (orMissing a s (p + i)) (orMissing b t (q + i))

@@ -22,8 +22,11 @@ use Rattle.sheet.specs.Block.{aheadOf, curveLine, curveOf, intervalAt, R
 use Rattle.sheet.specs.Apart.{InThree, CurvesApart}
 use Rattle.text.specs.declared.Next.{Next}
 use Rattle.text.specs.declared.Next.the-variants.{At, Wrong}
-use Rattle.sheet.proofs.Along.{closing, Along, values-along}
+use Rattle.sheet.proofs.Along.{closing, Along, never-at, values-along}
 use Rattle.sheet.proofs.AlongBlock.{Ended, intervals-ended, rows-ended}
+
+pub never-read : {line : ℕ} {h : Hour} → broken line ≡ read h → ⊥
+never-read e = let z : _≡_ {A = ℕ} 0 1 = cc in omega arith
 
 -- a line that is read ends in a line feed
 record Fed (s : List ℕ) (k : ℕ) : Type 0 where
@@ -35,8 +38,8 @@ fed : (s : List ℕ) (k : ℕ) (a : Next) → andThen a (lineFeed s) ≡ At k �
 unfolding keyAt
 fed s k (At i) = by-test (eqb (byteAt s i) 10) (λ b. (if b then At (i + 1) else Wrong) ≡ At k → Fed s k)
     (λ h e. record { at = i; next = cc; feed = eqb-true (byteAt s i) 10 h })
-    (λ h e. let no : _≡_ {A = ℕ} 0 1 = cc in absurd (omega arith))
-fed s k Wrong = λ e. let no : _≡_ {A = ℕ} 0 1 = cc in absurd (omega arith)
+    (λ h e. absurd (never-at e))
+fed s k Wrong = λ e. absurd (never-at e)
 
 line-fed : (first n : ℕ) (s : List ℕ) (at k : ℕ) → lineAt first n s at ≡ At k → Fed s k
 unfolding lineAt
@@ -64,7 +67,7 @@ module _ {s first curves rest : List ℕ} (o : InThree s first curves rest) wher
   after-curves : (v : ℕ → ℤ) (da : Curve) (a : Next) → andThen a (curveLine 12 s) ≡ At behind
       → (rt : Curve) × (afterLine2 a v da s ≡ withRows v da rt s behind (rowsAt 30 s behind 0))
   after-curves v da (At i) e = (curveOf 12 s i, rw e)
-  after-curves v da Wrong e = let no : _≡_ {A = ℕ} 0 1 = cc in absurd (omega arith)
+  after-curves v da Wrong e = absurd (never-at e)
 
   block-behind : Behind
   unfolding blockOf blockAt
@@ -102,7 +105,7 @@ module _ {s t first curves others rest : List ℕ} (o : InThree s first curves r
 -- ---- hours that are alike in all but their curves
 module _ (v : ℕ → ℤ) (s t : List ℕ) (a b : ℕ) (e : intervalAt s a ≡ intervalAt t b) (da rt da′ rt′ : Curve) where
   rows-alike : (h g : Hour) (r : Rows) → withRows v da rt s a r ≡ read h → withRows v da′ rt′ t b r ≡ read g → Alike h g
-  rows-alike h g (brokenRow line) x y = let no : _≡_ {A = ℕ} 0 1 = cc in absurd (omega arith)
+  rows-alike h g (brokenRow line) x y = absurd (never-read x)
   rows-alike h g (counted n) x y = record {
     hour = ap (λ (k : Hour). k .hour) (sym one) ∙ ap (λ (k : Hour). k .hour) other;
     ahead = ap (λ (k : Hour). k .ahead) (sym one) ∙ ap (λ (k : Hour). k .ahead) other;
@@ -118,7 +121,7 @@ module _ (v : ℕ → ℤ) (s t : List ℕ) (a b : ℕ) (e : intervalAt s a ≡ 
 
   rows-broken : (line : ℕ) (r : Rows) → withRows v da rt s a r ≡ broken line → withRows v da′ rt′ t b r ≡ broken line
   rows-broken line (brokenRow l) x = x
-  rows-broken line (counted n) x = let no : _≡_ {A = ℕ} 0 1 = cc in absurd (omega arith)
+  rows-broken line (counted n) x = absurd (never-read (sym x))
 
 module _ (s t : List ℕ) (o : CurvesApart s t) where
   abbrev one : Behind (o .one)

@@ -1,4 +1,4 @@
--- The theorems of the definitions of a block: demand 3 as it speaks of texts, and where a block ends.
+-- The theorems of the definitions of a block: demand 3 as it speaks of texts, where a block ends, and the text of a record.
 use mathlib.Core.Path.{_≡_}
 use mathlib.Core.Bool.{Bool}
 use mathlib.Core.List.{List, [], _∷_, _++_}
@@ -8,15 +8,19 @@ use lib.IntN.{ℤ}
 use lib.ListN.{length, take}
 use Rattle.tariff.specs.declared.Hour.{Hour}
 use Rattle.tariff.specs.declared.Expected.{Expected}
-use Rattle.tariff.specs.Reply.{paid, refused}
+use Rattle.tariff.specs.Reply.{clear, paid, refused}
+use Rattle.tariff.specs.Hour.{form, range}
 use Rattle.tariff.specs.Demand.{MustPrice, priceIn, FirstUnpriced, Alike, NoFaultTo4, NoFaultTo5, Extends}
 use Rattle.sheet.specs.Block.{blockOf, broken, read, replyTo, rowTo}
 use Rattle.sheet.specs.Apart.{CurvesApart}
 use Rattle.sheet.specs.Closed.{Closed}
+use Rattle.sheet.specs.Print.{textOf, Plain}
 use Rattle.sheet.proofs.Apart.{apart-alike, apart-broken}
 use Rattle.sheet.proofs.BlockReplies.{blocks-needed, block-reach, blocks-extended}
 use Rattle.sheet.proofs.Local.{decided}
 use Rattle.sheet.proofs.Closing.{closed-or-ended, not-read}
+use Rattle.sheet.proofs.ReadsBack.{text-read, read-again}
+use Rattle.sheet.proofs.Forms.{form-exactly}
 
 -- ---- texts that differ in their curve lines only
 
@@ -67,7 +71,7 @@ pub adding-curve-to-a-block-changes-nothing :
     → (replyTo (blockOf t) isExcluded expected (length row) ≡ paid sum cents) × (rowTo (blockOf t) isExcluded expected row ≡ rowTo (blockOf s) isExcluded expected row)
 adding-curve-to-a-block-changes-nothing = blocks-extended
 
--- ---- the end of a block
+-- ---- the end of a block, and its lines
 
 -- What stands behind an empty line never changes what a text is read as.
 pub behind-the-close : (s behind : List ℕ) → Closed s → blockOf (s ++ behind) ≡ blockOf s
@@ -76,6 +80,22 @@ behind-the-close = not-read
 -- The end of input closes a block as an empty line does.
 pub the-end-closes : (front behind : List ℕ) → blockOf (front ++ (10 ∷ 10 ∷ behind)) ≡ blockOf (front ++ (10 ∷ []))
 the-end-closes = closed-or-ended
+
+-- FORM is given exactly when a line is not as printed, and its place is that line.
+pub form-exactly-when-broken :
+    (s : List ℕ) (isExcluded : Bool) (expected : Expected) (room line : ℕ)
+    → (replyTo (blockOf s) isExcluded expected room ≡ refused 1 line) ↔ (blockOf s ≡ broken line)
+form-exactly-when-broken = form-exactly
+
+-- ---- the text of a record
+
+-- Every hour's record within the ranges, with blanks past its counts, has a text that is read to exactly that record.
+pub reads-back : (h : Hour) → form h ≡ clear → range h ≡ clear → Plain h → blockOf (textOf h) ≡ read h
+reads-back = text-read
+
+-- So has every record in the ranges that is read.
+pub reads-again : (s : List ℕ) (h : Hour) → blockOf s ≡ read h → range h ≡ clear → blockOf (textOf h) ≡ read h
+reads-again = read-again
 
 -- A block is decided by its first 16,384 bytes: a program that reads no more of a block of any length has its exact answer.
 pub first-bytes-decide : (s : List ℕ) → blockOf (take 16384 s) ≡ blockOf s

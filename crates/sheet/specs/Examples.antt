@@ -7,13 +7,15 @@ use lib.IntN.{pos}
 use Rattle.exact.specs.Whole.{upTo}
 use Rattle.tariff.specs.declared.Uol.the-variants.{Missing, At}
 use Rattle.tariff.specs.declared.Interval.{Interval}
+use Rattle.tariff.specs.declared.Hour.{Hour}
 use Rattle.tariff.specs.Units.{kw, price, movePrice, seconds}
 use Rattle.tariff.specs.Hour.{blank}
 use Rattle.text.specs.Text.{bytes, keyAt}
 use Rattle.text.specs.Number.{digitAt, moreDigits, naturalAt, numberAt}
 use Rattle.sheet.specs.Line.{valueAt, fieldAt, afterFields, valueIn, lineAt, closes}
-use Rattle.sheet.specs.Apart.{CurvesApart}
 use Rattle.sheet.specs.Block.{Block, afterPairs, endIn, priceIn, curveLine, curveOf, intervalPlace, intervalAt, counted, brokenRow, rowsAt, blockAt, blockOf, broken, read}
+use Rattle.sheet.specs.Apart.{CurvesApart}
+use Rattle.sheet.specs.Print.{natural, fields, line, pairs, curve, intervals, textOf}
 
 -- what a proof by computation opens
 reading : List ℕ → Block
@@ -76,19 +78,24 @@ row en ae co eop lim =
       bmv = movePrice (pos 0);
     }
 
-pub listing-reads :
-    blockOf listing
-    ≡ read
-    (record {
+abbrev pub listed : Hour
+listed =
+    record {
       hour = pos 14;
       ahead = record { en = kw (pos 100000); reg = kw (pos 0); r1 = kw (pos 0); r2 = kw (pos 0); r3 = kw (pos 0); breg = price (pos 0); b1 = price (pos 0); b2 = price (pos 0); b3 = price (pos 0) };
       da = record { start = kw (pos 0); n = 2; to = kw (pos 60000) ∷ kw (pos 100000) ∷ replicate 10 (kw (pos 0)); at = price (pos 2000) ∷ price (pos 3500) ∷ replicate 10 (price (pos 0)) };
       rt = record { start = kw (pos 0); n = 2; to = kw (pos 60000) ∷ kw (pos 120000) ∷ replicate 10 (kw (pos 0)); at = price (pos 2000) ∷ price (pos 4000) ∷ replicate 10 (price (pos 0)) };
       n = 4;
       iv = row 80000 80000 0 90000 70000 ∷ row 50000 70000 3000 90000 45000 ∷ row 110000 110000 0 120000 100000 ∷ row 100000 95000 0 100000 95000 ∷ replicate 26 blank;
-    })
+    }
+
+pub listing-reads : blockOf listing ≡ read listed
 unfolding reading
 listing-reads = refl
+
+listing-printed : textOf listed ≡ listing
+unfolding textOf intervals curve pairs line fields natural
+listing-printed = refl
 
 -- what stands behind an empty line is not read
 closed-reads : blockOf (listing ++ bytes "\nhour=15 and more") ≡ blockOf listing
@@ -112,10 +119,6 @@ two-lines = refl
 leading-zero : blockOf (bytes "hour=07" ++ rest1) ≡ broken 1
 unfolding reading
 leading-zero = refl
-
-plus-sign : blockOf (bytes "hour=+7" ++ rest1) ≡ broken 1
-unfolding reading
-plus-sign = refl
 
 minus-zero : blockOf (bytes "hour=-0" ++ rest1) ≡ broken 1
 unfolding reading

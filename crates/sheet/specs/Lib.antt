@@ -4,4 +4,5 @@ pub mod Line
 pub mod Block
 pub mod Apart
 pub mod Closed
+pub mod Print
 pub mod Examples

@@ -18,14 +18,15 @@ use Rattle.tariff.specs.declared.Found.{Found}
 use Rattle.tariff.specs.Units.{centsOf}
 use Rattle.tariff.specs.Sheet.{endOf, priceOf, beginOf, curveKeeps}
 use Rattle.tariff.specs.Curve.{known, quote, change, integral}
-use Rattle.tariff.specs.Reply.{Reply, paid, refused, Verdict, told, shown}
+use Rattle.tariff.specs.Reply.{Reply, paid, refused, Verdict, told, shown, clear, fault}
 use Rattle.tariff.specs.Eligible.{lags}
 use Rattle.tariff.specs.Derate.{ofFive, reduction, potential, floorOf, remainder, share}
-use Rattle.tariff.specs.Hour.{interval, contribution, reply, rowAfter}
+use Rattle.tariff.specs.Hour.{interval, contribution, reply, rowAfter, form, range, order, blockFault}
 use Rattle.tariff.specs.Demand.{MustPrice, priceIn, FirstUnpriced, Alike, NoFaultTo4, NoFaultTo5, Extends}
 use Rattle.tariff.proofs.Payments.{lagging-nothing, excluded-nothing, paid-once}
 use Rattle.tariff.proofs.Curves.{integral-turned}
 use Rattle.tariff.proofs.Shares.{served-first, shares-sum, share-bound}
+use Rattle.tariff.proofs.Ordered.{form-first, range-second, order-third}
 use Rattle.tariff.proofs.Replies.{needed-same, extended-same}
 use Rattle.tariff.proofs.Reach.{reach-when}
 use Rattle.tariff.proofs.Steps.{more-steps, priced-iff, step-price}
@@ -90,6 +91,30 @@ pub rounded-once :
     → reply h isExcluded expected room ≡ paid sum cents
     → (sum ≡ sumTo (contribution h isExcluded) (h .n)) × (cents ≡ centsOf (sumTo (contribution h isExcluded) (h .n)))
 rounded-once = paid-once
+
+-- ---- the checks, in their order over the whole block
+
+-- FORM comes before every other check, RANGE before all but FORM, ORDER between RANGE and CURVE.
+pub form-comes-first :
+    (h : Hour) (expected : Expected) (number place : ℕ)
+    → form h ≡ fault number place
+    → blockFault h expected ≡ fault number place
+form-comes-first = form-first
+
+pub range-comes-second :
+    (h : Hour) (expected : Expected) (number place : ℕ)
+    → form h ≡ clear
+    → range h ≡ fault number place
+    → blockFault h expected ≡ fault number place
+range-comes-second = range-second
+
+pub order-comes-third :
+    (h : Hour) (expected : Expected) (number place : ℕ)
+    → form h ≡ clear
+    → range h ≡ clear
+    → order h expected ≡ fault number place
+    → blockFault h expected ≡ fault number place
+order-comes-third = order-third
 
 -- ---- the lent row
 

@@ -16,4 +16,5 @@ pub mod Reach
 pub mod Rows
 pub mod Answers
 pub mod Steps
+pub mod Ordered
 pub mod Demands

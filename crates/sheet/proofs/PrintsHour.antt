@@ -1,0 +1,197 @@
+-- The text of an hour's record is read to that record.
+use mathlib.Core.Path.{_≡_, refl, ap, _∙_}
+use mathlib.Core.Bool.{true, false}
+use mathlib.Core.List.{List, [], _∷_}
+use Prim.Native.Nat.{ℕ, zero, suc, _+_, _≤_, _<_}
+use native.Mathlib.Decide.{decLt}
+use native.Mathlib.Numerals.{add-one}
+use native.Mathlib.Nat.{add-zero, not-suc-le-zero}
+use native.Mathlib.Omega.{arith}
+use lib.Dec.{T, leb}
+use lib.IntN.{ℤ, pos}
+use lib.ListN.{length, getD}
+use Rattle.exact.specs.Whole.{upTo, Within}
+use Rattle.exact.proofs.Parts.{false-eqZ}
+use Rattle.exact.proofs.Range.{within-lit}
+use Rattle.exact.proofs.Sums.{up-same}
+use Rattle.tariff.specs.declared.Uol.{Uol}
+use Rattle.tariff.specs.declared.Uol.the-variants as uol
+use Rattle.tariff.specs.declared.Interval.{Interval}
+use Rattle.tariff.specs.declared.Hour.{Hour}
+use Rattle.tariff.specs.Sheet.{uolInRange, intervalInRange}
+use Rattle.tariff.specs.Hour.{interval}
+use Rattle.tariff.proofs.Ranges.{AheadFits, IntervalFits, interval-fits, uol-fits, capacity-within}
+use Rattle.sheet.specs.Line.{missing, valueIn, lineAt, closes}
+use Rattle.sheet.specs.Block.{aheadOf, uolOf, intervalOf, intervalPlace, intervalAt, counted, rowsAt}
+use Rattle.sheet.specs.Print.{number, limit, fields, line, ahead, amounts, intervals}
+use Rattle.text.specs.declared.Next.the-variants.{At}
+use Rattle.sheet.proofs.Holds.{Holds, holds-split, after-both, Says, number-said, missing-said}
+use Rattle.sheet.proofs.Prints.{line-said}
+use Rattle.sheet.proofs.PrintsCurve.{AllSay, say-at}
+
+-- ---- the numbers of a line, and the record that they make
+abbrev limitValue : Uol → ℤ
+limitValue uol.Missing = missing
+limitValue (uol.At k) = k .0
+
+limit-said : (u : Uol) → uolInRange u ≡ true → Says 23 (limit u) (limitValue u)
+limit-said uol.Missing e = missing-said
+limit-said (uol.At k) e = number-said 23 (k .0) (within-lit tt (capacity-within e))
+
+limit-back : (u : Uol) → uolInRange u ≡ true → uolOf (limitValue u) ≡ u
+limit-back uol.Missing e = refl
+limit-back (uol.At k) e = let w : Within 2000000 (k .0) = capacity-within e in rw (false-eqZ (k .0) missing (λ z. let q = rw z at w in omega arith))
+
+abbrev pub aheadValues : Hour → List ℤ
+aheadValues h =
+    let a = h .ahead in
+    h .hour ∷ a .en .0 ∷ a .reg .0 ∷ a .r1 .0 ∷ a .r2 .0 ∷ a .r3 .0 ∷ a .breg .0 ∷ a .b1 .0 ∷ a .b2 .0 ∷ a .b3 .0 ∷ []
+
+abbrev values : Interval → List ℤ
+values v =
+    v .s .0 ∷ v .en .0 ∷ v .ae .0 ∷ v .co .0 ∷ v .eop .0 ∷ v .pen .0 ∷ v .lim .0 ∷ limitValue (v .uol) ∷ v .r1 .0 ∷ v .r2 .0 ∷ v .r3 .0
+    ∷ v .p1 .0 ∷ v .p2 .0 ∷ v .p3 .0 ∷ v .reg .0 ∷ v .preg .0 ∷ v .breg .0 ∷ v .mv .0 ∷ v .pmv .0 ∷ v .bmv .0 ∷ []
+
+says : {N : ℕ} (k : ℕ) (z : ℤ) → T (leb N 9999999) → Within N z → Says k (number z) z
+says k z t w = number-said k z (within-lit t w)
+
+pub ahead-say : (h : Hour) → Within 23 (h .hour) → AheadFits (h .ahead) → AllSay 0 (ahead h) (aheadValues h)
+ahead-say h w f = (
+  says 0 _ tt w,
+  (
+    says 1 _ tt (f .en),
+    (
+      says 2 _ tt (f .reg),
+      (
+        says 3 _ tt (f .r1),
+        (
+          says 4 _ tt (f .r2),
+          (
+            says 5 _ tt (f .r3),
+            (says 6 _ tt (f .breg), (says 7 _ tt (f .b1), (says 8 _ tt (f .b2), (says 9 _ tt (f .b3), tt)))),
+          ),
+        ),
+      ),
+    ),
+  ),
+)
+
+interval-say : (v : Interval) → IntervalFits v → uolInRange (v .uol) ≡ true → AllSay 16 (amounts v) (values v)
+interval-say v f e = (
+  says 16 _ tt (f .s),
+  (
+    says 17 _ tt (f .en),
+    (
+      says 18 _ tt (f .ae),
+      (
+        says 19 _ tt (f .co),
+        (
+          says 20 _ tt (f .eop),
+          (
+            says 21 _ tt (f .pen),
+            (
+              says 22 _ tt (f .lim),
+              (
+                limit-said (v .uol) e,
+                (
+                  says 24 _ tt (f .r1),
+                  (
+                    says 25 _ tt (f .r2),
+                    (
+                      says 26 _ tt (f .r3),
+                      (
+                        says 27 _ tt (f .p1),
+                        (
+                          says 28 _ tt (f .p2),
+                          (
+                            says 29 _ tt (f .p3),
+                            (
+                              says 30 _ tt (f .reg),
+                              (
+                                says 31 _ tt (f .preg),
+                                (
+                                  says 32 _ tt (f .breg),
+                                  (says 33 _ tt (f .mv), (says 34 _ tt (f .pmv), (says 35 _ tt (f .bmv), tt))),
+                                ),
+                              ),
+                            ),
+                          ),
+                        ),
+                      ),
+                    ),
+                  ),
+                ),
+              ),
+            ),
+          ),
+        ),
+      ),
+    ),
+  ),
+)
+
+-- a record sees the first numbers only
+pub ahead-back : (h : Hour) (f : ℕ → ℤ) → ((j : ℕ) → j < 10 → f j ≡ getD (aheadValues h) j (pos 0)) → aheadOf f ≡ h .ahead
+unfolding upTo
+ahead-back h f e = ap (λ (l : List ℤ). aheadOf (λ n. getD l n (pos 0))) (up-same f (λ j. getD (aheadValues h) j (pos 0)) 10 e)
+
+interval-back : (v : Interval) (f : ℕ → ℤ) → uolInRange (v .uol) ≡ true → ((j : ℕ) → j < 20 → f j ≡ getD (values v) j (pos 0)) → intervalOf f ≡ v
+unfolding upTo
+interval-back v f u e = ap (λ (l : List ℤ). intervalOf (λ n. getD l n (pos 0))) (up-same f (λ j. getD (values v) j (pos 0)) 20 e) ∙ rw (limit-back (v .uol) u)
+
+-- ---- interval lines
+module _ (h : Hour) (fits : (i : ℕ) → i < h .n → intervalInRange (interval h i) ≡ true) (s : List ℕ) (at : ℕ) where
+  abbrev place : ℕ → ℕ
+  place n = at + length (intervals n h)
+
+  pub record Row (i : ℕ) : Type 0 where
+    pub begun : closes s (place i) ≡ false
+    pub next : lineAt 16 20 s (place i) ≡ At (place (suc i))
+    pub same : intervalOf (valueIn 16 s (place i)) ≡ interval h i
+
+  row-begun : (v : Interval) (i : ℕ) → Holds s i (line 16 20 (amounts v)) → closes s i ≡ false
+  unfolding closes line fields
+  row-begun v i o = rw (o .0)
+
+  row-said : (n : ℕ) → n < h .n → Holds s (place n) (line 16 20 (amounts (interval h n))) → Row n
+  unfolding intervals
+  row-said n l o =
+      let v = interval h n in
+      let u = uol-fits v (fits n l) in
+      let r = line-said 16 (amounts v) (λ j. getD (values v) j (pos 0)) s (place n) 20 (say-at 16 (amounts v) (values v) (interval-say v (interval-fits v (fits n l)) u)) (omega arith) o in
+      record {
+        begun = row-begun v (place n) o;
+        next = r .place ∙ ap At (after-both at (intervals n h) (line 16 20 (amounts v)));
+        same = interval-back v (valueIn 16 s (place n)) u (r .values);
+      }
+
+  pub rows-said : (n : ℕ) → n ≤ h .n → Holds s at (intervals n h) → (i : ℕ) → i < n → Row i
+  unfolding intervals
+  rows-said zero l o i u = absurd (not-suc-le-zero u)
+  rows-said (suc n) l o i u = go (rows-said n (omega arith) (r .0) i) (decLt i n)
+    where
+      r : Holds s at (intervals n h) × Holds s (place n) (line 16 20 (amounts (interval h n)))
+      r = holds-split s at (intervals n h) _ o
+
+      go : (i < n → Row i) → Dec (i < n) → Row i
+      go before (yes p) = before p
+      go before (no p) = let e : i ≡ n = omega arith in rw e (row-said n l (r .1))
+
+  module _ (row : (i : ℕ) → i < h .n → Row i) where
+    place-said : (n : ℕ) → n ≤ h .n → intervalPlace s at n ≡ At (place n)
+    unfolding intervalPlace intervals
+    place-said zero l = rw add-zero
+    place-said (suc n) l = rw (place-said n (omega arith)) (row n l .next)
+
+    pub each-said : (i : ℕ) → i < h .n → intervalAt s at i ≡ interval h i
+    unfolding intervalAt
+    each-said i l = rw (place-said i (omega arith)) (row i l .same)
+
+    pub rows-counted : (d left i : ℕ) → i + d ≡ h .n → d ≤ left → closes s (place (h .n)) ≡ true → rowsAt left s (place i) i ≡ counted (h .n)
+    unfolding rowsAt
+    rows-counted zero zero i e l c = let q : i ≡ h .n = omega arith in rw (q, c)
+    rows-counted zero (suc left) i e l c = let q : i ≡ h .n = omega arith in rw (q, c)
+    rows-counted (suc d) zero i e l c = absurd (not-suc-le-zero l)
+    rows-counted (suc d) (suc left) i e l c =
+        let r = row i (omega arith) in
+        rw (r .begun, r .next, add-one i) (rows-counted d left (suc i) (omega arith) (omega arith) c)

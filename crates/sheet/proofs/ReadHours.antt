@@ -1,0 +1,106 @@
+-- A record that is read has counts that its arrays hold, and blanks past them.
+use mathlib.Core.Path.{_≡_, refl, sym, subst, _∙_}
+use mathlib.Core.List.{List}
+use Prim.Native.Nat.{ℕ, zero, suc, _+_, _≤_, _<_}
+use native.Mathlib.Omega.{arith}
+use borrow.Author.Tests.{le-leb}
+use lib.IntN.{ℤ, pos}
+use lib.Signed.{leZ}
+use lib.ListN.{getD, List·getD-append}
+use Rattle.exact.specs.Choice.{if_then_else_}
+use Rattle.exact.specs.Whole.{over, upTo}
+use Rattle.exact.proofs.Parts.{by-test, arithℤ, apart}
+use Rattle.exact.proofs.Sums.{up-length, up-at}
+use Rattle.tariff.specs.declared.Hour.{Hour}
+use Rattle.tariff.specs.Units.{kw, price}
+use Rattle.tariff.specs.Sheet.{liesIn}
+use Rattle.tariff.specs.Reply.{clear}
+use Rattle.tariff.specs.Hour.{blank, form}
+use Rattle.tariff.proofs.Tests.{and-right}
+use Rattle.sheet.specs.Line.{andThen, afterFields, valueIn, lineFeed, lineAt, closes, filled}
+use Rattle.sheet.specs.Block.{aheadOf, afterPairs, pairsAt, curveLine, curveFrom, curveOf, intervalAt, Rows, counted, brokenRow, rowAfterLine, rowsAt, read, withRows, afterLine1, afterLine2, afterLine3, blockAt, blockOf}
+use Rattle.sheet.specs.Print.{CurvePlain, Plain}
+use Rattle.text.specs.declared.Next.{Next}
+use Rattle.text.specs.declared.Next.the-variants.{At, Wrong}
+use Rattle.sheet.proofs.Along.{never-at}
+use Rattle.sheet.proofs.Apart.{never-read}
+use Rattle.sheet.proofs.PrintsCurve.{filled-same}
+
+-- ---- arrays
+filled-at : {A : Type 0} (f : ℕ → A) (d : A) (n total j : ℕ) → j < n → f j ≡ getD (filled n total f d) j d
+filled-at f d n total j h = sym (List·getD-append (upTo f n) _ d j (let e = up-length f n in omega arith) ∙ up-at f d n j h)
+
+filled-plain : {A : Type 0} (f : ℕ → A) (d : A) (n total : ℕ) → filled n total f d ≡ filled n total (λ j. getD (filled n total f d) j d) d
+filled-plain f d n total = filled-same f _ d n total (filled-at f d n total)
+
+-- ---- a curve line
+curve-plain : (first : ℕ) (s : List ℕ) (at : ℕ) → CurvePlain (curveOf first s at)
+unfolding curveOf
+curve-plain first s at = go (valueIn first s at 0) (valueIn first s at 1) (afterFields first 2 s at)
+  where
+    go : (start n : ℤ) (a : Next) → CurvePlain (curveFrom start n s a)
+    go start n (At i) = record { ends = filled-plain _ (kw (pos 0)) (over n) 12; prices = filled-plain _ (price (pos 0)) (over n) 12 }
+    go start n Wrong = record { ends = filled-plain _ (kw (pos 0)) 0 12; prices = filled-plain _ (price (pos 0)) 0 12 }
+
+curve-few : (first : ℕ) (s : List ℕ) (at i : ℕ) → curveLine first s at ≡ At i → curveOf first s at .n ≤ 12
+unfolding curveLine curveOf
+curve-few first s at i = go (valueIn first s at 0) (valueIn first s at 1) (afterFields first 2 s at)
+  where
+    go : (start n : ℤ) (a : Next) → andThen a (pairsAt n s) ≡ At i → curveFrom start n s a .n ≤ 12
+    go start n (At j) = by-test (liesIn (pos 0) (pos 12) n) (λ b. (if b then andThen (afterPairs (over n) s j) (lineFeed s) else Wrong) ≡ At i → over n ≤ 12)
+        (λ t e. omega (arithℤ, apart n, and-right (leZ (pos 0) n) (leZ n (pos 12)) t))
+        (λ t e. absurd (never-at e))
+    go start n Wrong = λ e. absurd (never-at e)
+
+-- ---- interval lines
+rows-few : (left : ℕ) (s : List ℕ) (at i n : ℕ) → rowsAt left s at i ≡ counted n → n ≤ i + left
+unfolding rowsAt
+rows-few zero s at i n = by-test (closes s at) (λ b. (if b then counted i else brokenRow (i + 4)) ≡ counted n → n ≤ i + 0)
+    (λ t e. let q : i ≡ n = cc in omega arith)
+    (λ t e. let z : _≡_ {A = ℕ} 0 1 = cc in absurd (omega arith))
+rows-few (suc left) s at i n = go (lineAt 16 20 s at) (λ next. rows-few left s next (i + 1) n)
+  where
+    after : (a : Next) → ((next : ℕ) → rowsAt left s next (i + 1) ≡ counted n → n ≤ i + 1 + left) → rowAfterLine a i (λ next. rowsAt left s next (i + 1)) ≡ counted n → n ≤ i + suc left
+    after (At next) f e = let q = f next e in omega arith
+    after Wrong f e = let z : _≡_ {A = ℕ} 0 1 = cc in absurd (omega arith)
+
+    go : (a : Next) → ((next : ℕ) → rowsAt left s next (i + 1) ≡ counted n → n ≤ i + 1 + left)
+        → (if closes s at then counted i else rowAfterLine a i (λ next. rowsAt left s next (i + 1))) ≡ counted n → n ≤ i + suc left
+    go a f = by-test (closes s at) (λ b. (if b then counted i else rowAfterLine a i (λ next. rowsAt left s next (i + 1))) ≡ counted n → n ≤ i + suc left)
+        (λ t e. let q : i ≡ n = cc in omega arith)
+        (λ t e. after a f e)
+
+-- ---- the block
+pub record Sound (h : Hour) : Type 0 where
+  pub form : form h ≡ clear
+  pub plain : Plain h
+
+module _ (s : List ℕ) (h : Hour) where
+  module _ (v : ℕ → ℤ) (a b : ℕ) where
+    hour-sound : (n k : ℕ) → curveOf 10 s a .n ≤ 12 → curveOf 12 s b .n ≤ 12 → n ≤ 30
+        → Sound (record { hour = v 0; ahead = aheadOf v; da = curveOf 10 s a; rt = curveOf 12 s b; n = n; iv = filled n 30 (intervalAt s k) blank })
+    unfolding form
+    hour-sound n k d r l = record {
+      form = rw (le-leb _ 12 d, le-leb _ 12 r, le-leb n 30 l);
+      plain = record { da = curve-plain 10 s a; rt = curve-plain 12 s b; iv = filled-plain (intervalAt s k) blank n 30 };
+    }
+
+    rows-sound : (k : ℕ) → curveOf 10 s a .n ≤ 12 → curveOf 12 s b .n ≤ 12 → (r : Rows) → rowsAt 30 s k 0 ≡ r → withRows v (curveOf 10 s a) (curveOf 12 s b) s k r ≡ read h → Sound h
+    rows-sound k d r (brokenRow line) e q = absurd (never-read q)
+    rows-sound k d r (counted n) e q = subst Sound (cc) (hour-sound n k d r (rows-few 30 s k 0 n e))
+
+    line3-sound : (x : Next) → curveLine 12 s b ≡ x → curveOf 10 s a .n ≤ 12 → afterLine3 x v (curveOf 10 s a) (curveOf 12 s b) s ≡ read h → Sound h
+    line3-sound (At k) e d q = rows-sound k d (curve-few 12 s b k e) (rowsAt 30 s k 0) refl q
+    line3-sound Wrong e d q = absurd (never-read q)
+
+  line2-sound : (v : ℕ → ℤ) (a : ℕ) (x : Next) → curveLine 10 s a ≡ x → afterLine2 x v (curveOf 10 s a) s ≡ read h → Sound h
+  line2-sound v a (At b) e q = line3-sound v a b (curveLine 12 s b) refl (curve-few 10 s a b e) q
+  line2-sound v a Wrong e q = absurd (never-read q)
+
+  line1-sound : (x : Next) → afterLine1 x s 0 ≡ read h → Sound h
+  line1-sound (At a) q = line2-sound (valueIn 0 s 0) a (curveLine 10 s a) refl q
+  line1-sound Wrong q = absurd (never-read q)
+
+  pub read-sound : blockOf s ≡ read h → Sound h
+  unfolding blockOf blockAt
+  read-sound q = line1-sound (lineAt 0 10 s 0) q

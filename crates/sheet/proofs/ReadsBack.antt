@@ -1,0 +1,102 @@
+-- Every hour's record within the ranges has a text that is read to exactly that record.
+use mathlib.Core.Path.{_≡_, sym, ap, _∙_}
+use mathlib.Core.Bool.{true}
+use mathlib.Core.List.{List, [], _++_}
+use Prim.Native.Nat.{ℕ, _+_, _<_}
+use native.Mathlib.Nat.{add-zero, zero-add}
+use native.Mathlib.Omega.{arith}
+use lib.IntN.{ℤ, pos}
+use lib.Signed.{leZ}
+use lib.ListN.{length, getD, length-append, List·getD-eq-default}
+use Rattle.exact.specs.Whole.{Within}
+use Rattle.exact.proofs.Parts.{arithℤ, apart}
+use Rattle.tariff.specs.declared.Interval.{Interval}
+use Rattle.tariff.specs.declared.Hour.{Hour}
+use Rattle.tariff.specs.Sheet.{isHour}
+use Rattle.tariff.specs.Reply.{clear}
+use Rattle.tariff.specs.Hour.{blank, form, range}
+use Rattle.tariff.proofs.Tests.{and-left, and-right}
+use Rattle.tariff.proofs.Ranges.{ahead-fits, curve-fits, form-says, range-says}
+use Rattle.sheet.specs.Line.{closes, valueIn}
+use Rattle.sheet.specs.Block.{curveLine, curveOf, counted, rowsAt, withRows, afterLine2, blockAt, blockOf, read}
+use Rattle.sheet.specs.Print.{line, ahead, curve, intervals, textOf, Plain}
+use Rattle.sheet.proofs.Holds.{Holds, holds-split, holds-end}
+use Rattle.sheet.proofs.Prints.{LineSaid, line-said}
+use Rattle.sheet.proofs.PrintsCurve.{filled-same, say-at, curve-line-said, curve-said}
+use Rattle.sheet.proofs.ReadHours.{read-sound}
+use Rattle.sheet.proofs.PrintsHour.{aheadValues, ahead-say, ahead-back, Row, rows-said, each-said, rows-counted}
+
+hour-within : (z : ℤ) → isHour z ≡ true → Within 23 z
+hour-within z e = omega (arithℤ, apart z, and-left (leZ (pos 0) z) (leZ z (pos 23)) e, and-right (leZ (pos 0) z) (leZ z (pos 23)) e)
+
+ends-behind : (a b c d : List ℕ) → closes (a ++ (b ++ (c ++ d))) (0 + length a + length b + length c + length d) ≡ true
+unfolding closes
+ends-behind a b c d =
+    let whole : length (a ++ (b ++ (c ++ d))) ≡ length a + (length b + (length c + length d)) = simp length-append in
+    rw (List·getD-eq-default (a ++ (b ++ (c ++ d))) 256 {n = 0 + length a + length b + length c + length d} (omega arith))
+
+module _ (h : Hour) (f : form h ≡ clear) (r : range h ≡ clear) (p : Plain h) where
+  -- the text's lines, one behind the other
+  module _ (s : List ℕ) where
+    abbrev place2 : ℕ
+    place2 = 0 + length (line 0 10 (ahead h))
+
+    abbrev place3 : ℕ
+    place3 = place2 + length (curve 10 (h .da))
+
+    abbrev place4 : ℕ
+    place4 = place3 + length (curve 12 (h .rt))
+
+    record Lines : Type 0 where
+      one : Holds s 0 (line 0 10 (ahead h))
+      two : Holds s place2 (curve 10 (h .da))
+      three : Holds s place3 (curve 12 (h .rt))
+      more : Holds s place4 (intervals (h .n) h)
+      end : closes s (place4 + length (intervals (h .n) h)) ≡ true
+
+    module _ (o : Lines) where
+      said : LineSaid 0 (ahead h) (λ j. getD (aheadValues h) j (pos 0)) s 0 10
+      said = line-said 0 _ _ s 0 10 (say-at 0 (ahead h) (aheadValues h) (ahead-say h (hour-within (h .hour) (range-says h r .0)) (ahead-fits (h .ahead) (range-says h r .1)))) (omega arith) (o .one)
+
+      row : (i : ℕ) → i < h .n → Row h (range-says h r .4) s place4 i
+      row = rows-said h (range-says h r .4) s place4 (h .n) (omega arith) (o .more)
+
+      rows-read : rowsAt 30 s place4 0 ≡ counted (h .n)
+      unfolding intervals
+      rows-read = rw add-zero at (rows-counted h (range-says h r .4) s place4 row (h .n) 30 0 (zero-add _) (form-says h f .2) (o .end))
+
+      curves-read : (v : ℕ → ℤ) → afterLine2 (curveLine 10 s place2) v (curveOf 10 s place2) s ≡ withRows v (h .da) (h .rt) s place4 (counted (h .n))
+      curves-read v =
+          let d = curve-fits (h .da) (range-says h r .2) in
+          let u = curve-fits (h .rt) (range-says h r .3) in
+          rw (
+            curve-line-said (h .da) d s 10 place2 (form-says h f .0) (omega arith) (o .two),
+            curve-said (h .da) d s 10 place2 (form-says h f .0) (omega arith) (o .two) (p .da),
+            curve-line-said (h .rt) u s 12 place3 (form-says h f .1) (omega arith) (o .three),
+            curve-said (h .rt) u s 12 place3 (form-says h f .1) (omega arith) (o .three) (p .rt),
+            rows-read,
+          )
+
+      lines-read : blockOf s ≡ read h
+      unfolding blockOf blockAt
+      lines-read =
+          rw (said .place, curves-read (valueIn 0 s 0), said .values 0 (omega arith), ahead-back h (valueIn 0 s 0) (said .values))
+          (ap (λ (l : List Interval). read (record { hour = h .hour; ahead = h .ahead; da = h .da; rt = h .rt; n = h .n; iv = l }))
+          (filled-same _ _ blank (h .n) 30 (each-said h (range-says h r .4) s place4 row) ∙ sym (p .iv)))
+
+  -- the text's lines stand in it, and it ends behind them
+  text-lines : Lines (textOf h)
+  unfolding textOf
+  text-lines =
+      let whole = holds-end [] (textOf h) in
+      let a = holds-split (textOf h) 0 (line 0 10 (ahead h)) _ whole in
+      let b = holds-split (textOf h) (place2 (textOf h)) (curve 10 (h .da)) _ (a .1) in
+      let c = holds-split (textOf h) (place3 (textOf h)) (curve 12 (h .rt)) (intervals (h .n) h) (b .1) in
+      record { one = a .0; two = b .0; three = c .0; more = c .1; end = ends-behind (line 0 10 (ahead h)) (curve 10 (h .da)) (curve 12 (h .rt)) (intervals (h .n) h) }
+
+  pub text-read : blockOf (textOf h) ≡ read h
+  text-read = lines-read (textOf h) text-lines
+
+-- a record that is read, and is in the ranges, is printed and read again
+pub read-again : (s : List ℕ) (h : Hour) → blockOf s ≡ read h → range h ≡ clear → blockOf (textOf h) ≡ read h
+read-again s h e r = let o = read-sound s h e in text-read h (o .form) r (o .plain)
