@@ -1,10 +1,9 @@
 -- What the range tests say: how far each number is from 0, for sums and products that must fit.
-use mathlib.Core.Path.{_≡_, refl, _∙_, ap}
-use mathlib.Core.Logic.{_↔_}
-use mathlib.Core.Bool.{Bool, true, false, false≢true, and-eq-true-iff}
-use Prim.Native.Nat.{ℕ, zero, suc, _+_, _<_, _≤_}
-use native.Mathlib.Decide.{decLt}
+use mathlib.Core.Path.{_≡_}
+use mathlib.Core.Bool.{Bool, true, false, _&&_, and-eq-true-iff}
+use Prim.Native.Nat.{ℕ, _+_, _<_, _≤_}
 use native.Mathlib.Omega.{arith}
+use lib.Dec.{leb}
 use borrow.Author.Tests.{leb-true}
 use lib.IntN.{ℤ, pos, negℤ}
 use lib.Signed.{_≤ℤ_, leZ}
@@ -15,8 +14,9 @@ use Rattle.tariff.specs.declared.DayAhead.{DayAhead}
 use Rattle.tariff.specs.declared.Interval.{Interval}
 use Rattle.tariff.specs.declared.Hour.{Hour}
 use Rattle.tariff.specs.Sheet.{liesIn, isSeconds, isHour, isPower, isCapacity, isBid, isPrice, endOf, priceOf, allTo, aheadInRange, stepInRange, curveInRange, uolInRange, intervalInRange}
-use Rattle.tariff.specs.Reply.{Verdict, clear, fault, unless, _then_, firstOf}
+use Rattle.tariff.specs.Reply.{Verdict, clear, unless, _then_, firstOf}
 use Rattle.tariff.specs.Hour.{interval, form, range}
+use Rattle.tariff.proofs.Checks.{then-clear, unless-clear, first-clear}
 use Rattle.tariff.proofs.Tests.{and-left, and-right, and-both, all-at}
 
 -- ---- one number
@@ -125,36 +125,28 @@ module _ (c : Curve) (e : curveInRange c ≡ true) where
 
 -- ---- checks 1 and 2, where they find nothing
 
-never : {number place : ℕ} → fault number place ≡ clear → ⊥
-never e = let z : _≡_ {A = ℕ} 0 1 = cc in omega arith
-
-unless-clear : (b : Bool) (number place : ℕ) → (unless b number place ≡ clear) ↔ (b ≡ true)
-unless-clear true number place = (λ e. refl, λ e. refl)
-unless-clear false number place = (λ e. absurd (never e), λ e. absurd (false≢true e))
-
-then-clear : (v w : Verdict) → ((v then w) ≡ clear) ↔ ((v ≡ clear) × (w ≡ clear))
-then-clear clear w = (λ e. (refl, e), λ e. e .1)
-then-clear (fault number place) w = (λ e. absurd (never e), λ e. absurd (never (e .0)))
-
-first-clear : (check : ℕ → Verdict) (n i : ℕ) → firstOf check n ≡ clear → i < n → check i ≡ clear
-unfolding firstOf
-first-clear check zero i e u = absurd (omega arith)
-first-clear check (suc n) i e u = go (first-clear check n i (w .0)) (decLt i n)
-  where
-    w : (firstOf check n ≡ clear) × (check n ≡ clear)
-    w = simp then-clear at e
-
-    go : (i < n → check i ≡ clear) → Dec (i < n) → check i ≡ clear
-    go ih (yes v) = ih v
-    go ih (no v) = let same : i ≡ n = omega arith in ap check same ∙ w .1
-
 pub form-says : (h : Hour) → form h ≡ clear → (h .da .n ≤ 12) × (h .rt .n ≤ 12) × (h .n ≤ 30)
 unfolding form
-form-says h e = let w = simp (then-clear, unless-clear) at e in omega (arith, leb-true)
+form-says h e =
+    let da = unless (leb (h .da .n) 12) 1 2 in
+    let rt = unless (leb (h .rt .n) 12) 1 3 in
+    let n = unless (leb (h .n) 30) 1 34 in
+    let p = then-clear da (rt then n) e in
+    let q = then-clear rt n (p .1) in
+    (leb-true _ _ (unless-clear _ 1 2 (p .0)), leb-true _ _ (unless-clear _ 1 3 (q .0)), leb-true _ _ (unless-clear _ 1 34 (q .1)))
 
 pub range-says : (h : Hour) → range h ≡ clear → (isHour (h .hour) ≡ true) × (aheadInRange (h .ahead) ≡ true) × (curveInRange (h .da) ≡ true) × (curveInRange (h .rt) ≡ true) × ((i : ℕ) → i < h .n → intervalInRange (interval h i) ≡ true)
 unfolding range
 range-says h e =
-    let w = simp (then-clear, unless-clear, and-eq-true-iff) at e in
-    let each : firstOf (λ i. unless (intervalInRange (interval h i)) 2 (i + 4)) (h .n) ≡ clear = search w in
-    (search and-both, search w, search w, search w, λ i u. simp unless-clear at (first-clear _ (h .n) i each u))
+    let first = isHour (h .hour) && aheadInRange (h .ahead) in
+    let each : ℕ → Verdict = λ i. unless (intervalInRange (interval h i)) 2 (i + 4) in
+    let p = then-clear (unless first 2 1) (unless (curveInRange (h .da)) 2 2 then unless (curveInRange (h .rt)) 2 3 then firstOf each (h .n)) e in
+    let q = then-clear (unless (curveInRange (h .da)) 2 2) (unless (curveInRange (h .rt)) 2 3 then firstOf each (h .n)) (p .1) in
+    let r = then-clear (unless (curveInRange (h .rt)) 2 3) (firstOf each (h .n)) (q .1) in
+    let line1 = unless-clear first 2 1 (p .0) in (
+      and-left (isHour (h .hour)) (aheadInRange (h .ahead)) line1,
+      and-right (isHour (h .hour)) (aheadInRange (h .ahead)) line1,
+      unless-clear _ 2 2 (q .0),
+      unless-clear _ 2 3 (r .0),
+      λ i u. unless-clear _ 2 (i + 4) (first-clear each (h .n) (r .1) i u),
+    )

@@ -1,0 +1,252 @@
+//! What the texts of a program can reach, as the second program's trace names
+//! it. A comparison that never reached one of these has not looked there.
+
+use std::cmp::Ordering;
+
+use second::curve::CurveFault;
+use second::energy;
+use second::import::{ImportHourLine, ImportInterval, ImportLine};
+use second::text::{Fault, Number, Side};
+use second::trace::{DerateKind, ImportTest, Nth, Spot};
+use second::{Check, Curve, DayAhead, Event, Interval, Run};
+
+const ORDERS: [Ordering; 3] = [Ordering::Less, Ordering::Equal, Ordering::Greater];
+
+const SIDES: [Side; 2] = [Side::Below, Side::Above];
+
+/// Where a number, which has seven digits at most, cannot lie.
+const UNREACHABLE: (i64, Side) = (9_999_999, Side::Above);
+
+/// What the program `hour` can reach.
+pub fn of_hour() -> Vec<Event> {
+    let in_hour = |event: &Event| match event {
+        Event::Refused(Check::Order | Check::Room, _) => false,
+        Event::Refused(_, spot) => is_of_hour(*spot),
+        _ => false,
+    };
+    let mut events: Vec<Event> = Event::refusals().into_iter().filter(in_hour).collect();
+    events.extend(Event::limits());
+    events.extend(forms_of_hour());
+    events.extend(ranges_of_hour());
+    events.extend(curves());
+    events.extend(derates());
+    events.extend(limits());
+    events.extend(products());
+    events.extend([Ordering::Less, Ordering::Equal].map(Event::Lagging));
+    events.extend(ORDERS.map(Event::HourSum));
+    events
+}
+
+/// What the program `day` can reach.
+pub fn of_day() -> Vec<Event> {
+    let mut events = of_hour();
+    let of_day = |event: &Event| {
+        matches!(
+            event,
+            Event::Refused(Check::Order, Spot::DayAheadLine) | Event::Refused(_, Spot::Header(_))
+        )
+    };
+    events.extend(Event::refusals().into_iter().filter(of_day));
+    events.extend(Event::exclusions());
+    events.extend([5, 6].map(Event::MarkWithoutRtc));
+    events.push(Event::DaySurplus);
+    for line in 1..=10 {
+        let value = if line <= 3 {
+            Fault::Number
+        } else {
+            Fault::Marks
+        };
+        let faults = [Fault::Absent, Fault::Unended, Fault::Key, value];
+        events.extend(malformed(Spot::Header(line), &faults));
+    }
+    events.extend(malformed(Spot::Header(11), &[Fault::Absent, Fault::Extra]));
+    events
+}
+
+/// What the program `import` can reach.
+pub fn of_import() -> Vec<Event> {
+    let of_import = |event: &Event| match event {
+        Event::Refused(_, spot) => is_of_import(*spot),
+        _ => false,
+    };
+    let mut events: Vec<Event> = Event::refusals().into_iter().filter(of_import).collect();
+    let line = [Fault::Absent, Fault::Unended, Fault::Key, Fault::Number];
+    events.extend(malformed(Spot::ImportLine, &line));
+    events.extend(malformed(Spot::ImportHourLine, &line));
+    for nth in Nth::ALL {
+        events.extend(malformed(Spot::ImportIntervalLine(nth), &line[1..]));
+    }
+    events.extend(malformed(Spot::ImportGap, &[Fault::Absent, Fault::Extra]));
+    events.extend(malformed(Spot::ImportExtraLine, &[Fault::Extra]));
+    events.extend(ranges(&ImportLine::default().numbers()));
+    events.extend(ranges(&ImportHourLine::default().numbers()));
+    events.extend(ranges(&ImportInterval::default().numbers()));
+    let tests = [
+        ImportTest::Counts,
+        ImportTest::Cts,
+        ImportTest::NotCut,
+        ImportTest::ProfileBelow,
+        ImportTest::BidAbove,
+    ];
+    events.extend(tests.map(Event::Import));
+    events.extend(ORDERS.map(Event::ImportSum));
+    events
+}
+
+/// Whether the report gives the event's count even if nobody asks for all.
+pub fn is_counted(event: Event) -> bool {
+    use Event::*;
+    matches!(
+        event,
+        Refused(..) | Limit(_) | Derate(_) | Lagging(_) | Excluded(_) | Import(_) | HourSum(_)
+    )
+}
+
+fn is_of_hour(spot: Spot) -> bool {
+    use Spot::*;
+    matches!(
+        spot,
+        DayAheadLine
+            | DayAheadCurve
+            | RealTimeCurve
+            | IntervalLine(_)
+            | ExtraLine
+            | WholeHour
+            | Interval(_)
+    )
+}
+
+fn is_of_import(spot: Spot) -> bool {
+    !is_of_hour(spot) && !matches!(spot, Spot::Header(_))
+}
+
+fn malformed(spot: Spot, faults: &[Fault]) -> Vec<Event> {
+    let event = |fault: &Fault| Event::Malformed(spot, *fault);
+    faults.iter().map(event).collect()
+}
+
+fn forms_of_hour() -> Vec<Event> {
+    let line = [Fault::Unended, Fault::Key, Fault::Number];
+    let mut events = malformed(Spot::ExtraLine, &[Fault::Extra]);
+    for spot in [Spot::DayAheadLine, Spot::DayAheadCurve, Spot::RealTimeCurve] {
+        events.extend(malformed(spot, &line));
+        events.extend(malformed(spot, &[Fault::Absent]));
+    }
+    for spot in [Spot::DayAheadCurve, Spot::RealTimeCurve] {
+        events.extend(malformed(spot, &[Fault::Count]));
+    }
+    for nth in Nth::ALL {
+        events.extend(malformed(Spot::IntervalLine(nth), &line));
+    }
+    events
+}
+
+fn ranges(numbers: &[Number]) -> Vec<Event> {
+    let mut events = Vec::new();
+    for number in numbers {
+        for side in SIDES {
+            if (number.range.high, side) != UNREACHABLE {
+                events.push(Event::OutOfRange(number.line, number.key, side));
+            }
+        }
+    }
+    events
+}
+
+fn ranges_of_hour() -> Vec<Event> {
+    let curve = Curve::new(0, &[(1, 0)]);
+    let mut events = ranges(&DayAhead::default().numbers());
+    events.extend(ranges(&curve.numbers("da")));
+    events.extend(ranges(&curve.numbers("rt")));
+    events.extend(ranges(&Interval::default().numbers()));
+    events
+}
+
+fn curves() -> Vec<Event> {
+    let mut events = Vec::new();
+    for spot in [Spot::DayAheadCurve, Spot::RealTimeCurve] {
+        for fault in [
+            CurveFault::StartWithoutSteps,
+            CurveFault::Ends,
+            CurveFault::Prices,
+        ] {
+            events.push(Event::CurveBroken(spot, fault));
+        }
+    }
+    events
+}
+
+fn derates() -> Vec<Event> {
+    let mut kinds = vec![
+        DerateKind::None,
+        DerateKind::Fits,
+        DerateKind::Tie,
+        DerateKind::SignChanged,
+        DerateKind::TooMuch,
+    ];
+    kinds.extend((0..=4).map(|left_over| DerateKind::Shared { left_over }));
+    kinds.into_iter().map(Event::Derate).collect()
+}
+
+/// On which amount each rule's limit can lie alone, and which way its stretch
+/// can run: every order of the four amounts and zero is tried.
+fn limits() -> Vec<Event> {
+    let mut run = Run::default();
+    let curve = Curve::new(-9, &[(9, 0)]);
+    let few = -4..=4;
+    for d in few.clone() {
+        for en in few.clone() {
+            for ae in few.clone() {
+                for eop in few.clone() {
+                    let interval = Interval {
+                        s: 1,
+                        en,
+                        ae,
+                        co: 9,
+                        eop,
+                        ..Interval::default()
+                    };
+                    let d = i128::from(d);
+                    let _ = energy::contribution(d, &interval, &curve, &curve, &mut run);
+                }
+            }
+        }
+    }
+    let of_limit = |event: &Event| matches!(event, Event::Lands(..) | Event::Stretch(..));
+    let reached = run.trace.events().map(|(event, _)| event);
+    reached.filter(of_limit).collect()
+}
+
+fn products() -> Vec<Event> {
+    let mut events = vec![Event::Capped, Event::RegulationFloor, Event::Movement];
+    for order in ORDERS {
+        events.push(Event::Upper(order));
+        events.push(Event::Regulation(order));
+        events.extend((1..=3).map(|reserve| Event::Reserve(reserve, order)));
+    }
+    events
+}
+
+#[cfg(test)]
+mod tests {
+    use super::*;
+    use second::trace::Branch;
+
+    #[test]
+    fn limits_know_every_rule() {
+        for branch in Branch::ALL {
+            let of_branch = |event: &&Event| matches!(event, Event::Stretch(b, _) if *b == branch);
+            assert!(limits().iter().any(|event| of_branch(&event)), "{branch:?}");
+        }
+    }
+
+    #[test]
+    fn every_refusal_belongs_to_a_program() {
+        let room = Event::Refused(Check::Room, Spot::WholeHour);
+        let known = [of_day(), of_import()].concat();
+        for event in Event::refusals() {
+            // The programs lend a row that is long enough.
+            assert!(known.contains(&event) || event == room, "{event:?}");
+        }
+    }
+}

@@ -1,0 +1,67 @@
+//! What is generated for a program, and how the second program answers it.
+
+use second::{Event, Run};
+
+use crate::random::Rng;
+use crate::same::Pair;
+
+/// One way to make texts.
+pub struct Recipe {
+    /// Its name in the report.
+    pub name: &'static str,
+    /// How many texts of each round it makes.
+    pub share: usize,
+    /// The text of its turn, counted from 0. What has to be met goes by the
+    /// turn, and everything else is drawn.
+    pub make: fn(&mut Rng, usize) -> Vec<u8>,
+}
+
+/// A program of document 01: its texts and its answers.
+pub struct Program {
+    /// Its name on the command line.
+    pub name: &'static str,
+    /// The ways its texts are made.
+    pub recipes: &'static [Recipe],
+    /// What the second program prints for a text.
+    pub answer: fn(&[u8], &mut Run) -> String,
+    /// Everything that its texts can reach.
+    pub wanted: fn() -> Vec<Event>,
+    /// Whether it has its answer at the first empty line, whatever follows.
+    pub ends_at_empty_line: bool,
+    /// Two texts whose answers are bound to each other, for each turn.
+    pub pair: fn(&mut Rng, usize) -> Pair,
+}
+
+/// A generated text.
+#[derive(Clone, Debug, PartialEq, Eq)]
+pub struct Case {
+    /// The way it was made.
+    pub recipe: &'static str,
+    /// The text.
+    pub text: Vec<u8>,
+}
+
+impl Program {
+    /// The text of this index under this seed.
+    pub fn case(&self, seed: u64, index: usize) -> Case {
+        let round: usize = self.recipes.iter().map(|recipe| recipe.share).sum();
+        let mut slot = index % round;
+        for recipe in self.recipes {
+            if slot < recipe.share {
+                let turn = index / round * recipe.share + slot;
+                let text = (recipe.make)(&mut Rng::new(seed, index as u64), turn);
+                let recipe = recipe.name;
+                return Case { recipe, text };
+            }
+            slot -= recipe.share;
+        }
+        unreachable!("a slot of the round belongs to a recipe")
+    }
+
+    /// The pair of this index under this seed.
+    pub fn pair(&self, seed: u64, index: usize) -> Pair {
+        // Another seed, so that pairs are not made of the cases' hours.
+        let mut rng = Rng::new(!seed, index as u64);
+        (self.pair)(&mut rng, index)
+    }
+}

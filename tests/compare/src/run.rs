@@ -1,0 +1,346 @@
+//! The comparison: every text goes to the program outside and to the second
+//! program, and their answers have to be the same bytes.
+
+use std::collections::BTreeMap;
+use std::fmt::Write as _;
+use std::path::{Path, PathBuf};
+use std::sync::atomic::{AtomicUsize, Ordering};
+use std::time::Instant;
+use std::{fs, io, thread};
+
+use second::{Event, Run, Way};
+
+use crate::events::is_counted;
+use crate::outside::{Manner, Outside, Reply};
+use crate::plan::Program;
+use crate::random::Rng;
+
+/// After so many failures a run is stopped.
+const ENOUGH: usize = 50;
+
+/// A program that does not end in time counts for so many of them.
+const SLOW_WEIGHT: usize = 10;
+
+/// A text or a pair that failed.
+struct Failure {
+    /// A line about it.
+    line: String,
+    /// Whether the program ended by itself.
+    in_time: bool,
+}
+
+/// What is compared.
+pub struct Job<'a> {
+    /// The kind of program.
+    pub program: &'a Program,
+    /// The program outside.
+    pub bin: &'a Path,
+    /// The seed of all texts.
+    pub seed: u64,
+    /// The indexes of the texts.
+    pub cases: std::ops::Range<usize>,
+    /// The indexes of the pairs of texts.
+    pub pairs: std::ops::Range<usize>,
+    /// How many programs run at once.
+    pub threads: usize,
+    /// Where failing texts are written.
+    pub out: PathBuf,
+    /// Whether everything wanted has to be reached.
+    pub judge_events: bool,
+    /// Whether the report gives every event.
+    pub all_events: bool,
+}
+
+/// What came of it.
+#[derive(Default)]
+pub struct Tally {
+    /// Texts, pairs and wanted events that passed.
+    pub passed: usize,
+    /// Those that failed.
+    pub failed: usize,
+    /// Of each recipe: texts without a refusal, and with one.
+    recipes: BTreeMap<&'static str, [usize; 2]>,
+    trace: second::Trace,
+    failures: Vec<String>,
+}
+
+impl Tally {
+    fn add(&mut self, other: Tally) {
+        self.passed += other.passed;
+        self.failed += other.failed;
+        for (recipe, counts) in other.recipes {
+            let sum = self.recipes.entry(recipe).or_default();
+            sum[0] += counts[0];
+            sum[1] += counts[1];
+        }
+        self.trace.add(&other.trace);
+        self.failures.extend(other.failures);
+    }
+
+    fn count(&mut self, recipe: &'static str, answer: &str) {
+        let refused = answer.contains("refused=");
+        self.recipes.entry(recipe).or_default()[usize::from(refused)] += 1;
+    }
+}
+
+impl Job<'_> {
+    /// Compares everything and prints a report; the last line counts what
+    /// passed and what failed.
+    pub fn run(&self) -> io::Result<Tally> {
+        let start = Instant::now();
+        let mut tally = self.all()?;
+        let seconds = start.elapsed().as_secs_f64();
+        let (cases, pairs) = (self.cases.len(), self.pairs.len());
+        let name = self.program.name;
+        println!("{name}: {cases} texts and {pairs} pairs in {seconds:.1} s");
+        println!("seed {}, {} threads", self.seed, self.threads);
+        for (recipe, [paid, refused]) in &tally.recipes {
+            println!("{recipe}: {paid} without a refusal, {refused} with one");
+        }
+        let done = tally.passed + tally.failed;
+        let whole = done == cases + pairs;
+        self.report_events(&mut tally, whole);
+        if !whole {
+            println!("stopped after {done} of {}", cases + pairs);
+        }
+        for failure in &tally.failures {
+            println!("failed: {failure}");
+        }
+        println!("{} passed, {} failed", tally.passed, tally.failed);
+        Ok(tally)
+    }
+
+    fn report_events(&self, tally: &mut Tally, whole: bool) {
+        for (event, count) in tally.trace.events() {
+            if self.all_events || is_counted(event) {
+                println!("reached {count} times: {event:?}");
+            }
+        }
+        if !(self.judge_events && whole) {
+            return;
+        }
+        let wanted = (self.program.wanted)();
+        let missing: Vec<Event> = tally.trace.missing(wanted.iter().copied());
+        let reached = wanted.len() - missing.len();
+        println!("{reached} of {} wanted events reached", wanted.len());
+        for event in &missing {
+            println!("never reached: {event:?}");
+        }
+        tally.passed += reached;
+        tally.failed += missing.len();
+    }
+
+    fn all(&self) -> io::Result<Tally> {
+        let next = AtomicUsize::new(0);
+        let failed = AtomicUsize::new(0);
+        let outside = Outside::new(self.threads);
+        let work = |slot| self.work(slot, &outside, &next, &failed);
+        let parts: Vec<_> = thread::scope(|scope| {
+            scope.spawn(|| outside.watch());
+            let work = &work;
+            let workers: Vec<_> = (0..self.threads)
+                .map(|slot| scope.spawn(move || work(slot)))
+                .collect();
+            let parts = workers.into_iter().map(|worker| worker.join()).collect();
+            outside.close();
+            parts
+        });
+        let mut tally = Tally::default();
+        for part in parts {
+            tally.add(part.expect("a worker does not panic")?);
+        }
+        Ok(tally)
+    }
+
+    /// One thread's share: texts first, then pairs.
+    fn work(
+        &self,
+        slot: usize,
+        outside: &Outside,
+        next: &AtomicUsize,
+        failed: &AtomicUsize,
+    ) -> io::Result<Tally> {
+        let mut tally = Tally::default();
+        let mut asker = Asker {
+            job: self,
+            slot,
+            outside,
+            run: Run::new(Way::Steps),
+        };
+        while failed.load(Ordering::Relaxed) < ENOUGH {
+            let index = next.fetch_add(1, Ordering::Relaxed);
+            let failure = if let Some(case) = self.cases.clone().nth(index) {
+                asker.case(case, &mut tally)?
+            } else if let Some(pair) = self.pairs.clone().nth(index - self.cases.len()) {
+                asker.pair(pair)?
+            } else {
+                break;
+            };
+            match failure {
+                None => tally.passed += 1,
+                Some(failure) => {
+                    tally.failed += 1;
+                    let weight = if failure.in_time { 1 } else { SLOW_WEIGHT };
+                    failed.fetch_add(weight, Ordering::Relaxed);
+                    tally.failures.push(failure.line);
+                }
+            }
+        }
+        tally.trace = asker.run.trace;
+        Ok(tally)
+    }
+
+    /// How a text is handed over: in one piece or in several, and sometimes
+    /// with an end that does not come before the answer.
+    fn manner(&self, text: &[u8], index: usize) -> Manner {
+        let mut rng = Rng::new(self.seed ^ 0x5eed, index as u64);
+        let closed = text.starts_with(b"\n") || text.windows(2).any(|two| two == b"\n\n");
+        let mut cuts: Vec<usize> = (0..rng.below(4))
+            .map(|_| rng.below(text.len() + 1))
+            .collect();
+        cuts.sort_unstable();
+        Manner {
+            held_open: self.program.ends_at_empty_line && closed && rng.once_in(3),
+            cuts,
+        }
+    }
+}
+
+/// What one thread asks with.
+struct Asker<'a> {
+    job: &'a Job<'a>,
+    slot: usize,
+    outside: &'a Outside,
+    run: Run,
+}
+
+/// A text with the answers of both programs.
+struct Answers {
+    text: Vec<u8>,
+    manner: Manner,
+    second: String,
+    reply: Reply,
+}
+
+impl Answers {
+    fn agree(&self) -> bool {
+        self.reply.is(&self.second)
+    }
+}
+
+impl Asker<'_> {
+    fn answers(&mut self, text: Vec<u8>, index: usize) -> io::Result<Answers> {
+        let manner = self.job.manner(&text, index);
+        let second = (self.job.program.answer)(&text, &mut self.run);
+        let reply = self.outside.ask(self.slot, self.job.bin, &text, &manner)?;
+        Ok(Answers {
+            text,
+            manner,
+            second,
+            reply,
+        })
+    }
+
+    /// Compares a text; the failure, if there is one.
+    fn case(&mut self, index: usize, tally: &mut Tally) -> io::Result<Option<Failure>> {
+        let case = self.job.program.case(self.job.seed, index);
+        let answers = self.answers(case.text, index)?;
+        tally.count(case.recipe, &answers.second);
+        if answers.agree() {
+            return Ok(None);
+        }
+        let name = format!("failing-{}{}-{index}.txt", self.prefix(), self.job.seed);
+        self.write(&name, case.recipe, "", &[&answers]).map(Some)
+    }
+
+    /// Compares a pair: both texts, and the bond between the answers of each
+    /// program.
+    fn pair(&mut self, index: usize) -> io::Result<Option<Failure>> {
+        let pair = self.job.program.pair(self.job.seed, index);
+        // What pairs reach is not counted: the texts have to do it alone.
+        let trace = std::mem::replace(&mut self.run.trace, second::Trace::off());
+        let answers = self.answers(pair.before, index);
+        let answers = answers.and_then(|before| Ok((before, self.answers(pair.after, index)?)));
+        self.run.trace = trace;
+        let (before, after) = answers?;
+        let (printed, then) = (&before.reply.stdout, &after.reply.stdout);
+        let outside = match (std::str::from_utf8(printed), std::str::from_utf8(then)) {
+            (Ok(printed), Ok(then)) => pair.bond.holds(printed, then),
+            _ => false,
+        };
+        let second = pair.bond.holds(&before.second, &after.second);
+        if before.agree() && after.agree() && outside && second {
+            return Ok(None);
+        }
+        let name = format!(
+            "failing-{}{}-pair-{index}.txt",
+            self.prefix(),
+            self.job.seed
+        );
+        let about = format!(
+            "the answers should be bound so: {:?}\nof the second program they are: {second}\nof the program outside they are: {outside}\n",
+            pair.bond
+        );
+        self.write(&name, pair.name, &about, &[&before, &after])
+            .map(Some)
+    }
+
+    fn prefix(&self) -> String {
+        match self.job.program.name {
+            "hour" => String::new(),
+            name => format!("{name}-"),
+        }
+    }
+
+    /// Writes a failure to its file and gives a line about it.
+    fn write(
+        &self,
+        name: &str,
+        recipe: &str,
+        about: &str,
+        all: &[&Answers],
+    ) -> io::Result<Failure> {
+        fs::create_dir_all(&self.job.out)?;
+        let path = self.job.out.join(name);
+        let mut file = format!("seed: {}\nmade as: {recipe}\n{about}", self.job.seed).into_bytes();
+        for answers in all {
+            file.extend(self.describe(answers));
+        }
+        fs::write(&path, file)?;
+        let differs = all.iter().find(|answers| !answers.agree());
+        let line = differs.map_or("bond broken".to_string(), |answers| {
+            let printed = String::from_utf8_lossy(&answers.reply.stdout);
+            let last = |text: &str| text.lines().last().unwrap_or_default().to_string();
+            let (wanted, got) = (last(&answers.second), last(&printed));
+            let end = answers.reply.end();
+            format!("second says {wanted:?}, program says {got:?} ({end})")
+        });
+        Ok(Failure {
+            line: format!("{} ({recipe}): {line}", path.display()),
+            in_time: all.iter().all(|answers| answers.reply.status.is_some()),
+        })
+    }
+
+    fn describe(&self, answers: &Answers) -> Vec<u8> {
+        let Reply { stdout, stderr, .. } = &answers.reply;
+        let mut text = String::new();
+        // Appending to a string cannot fail.
+        let _ = writeln!(
+            text,
+            "\n--- the second program's answer\n{}",
+            answers.second
+        );
+        let _ = writeln!(text, "--- the program's answer ({})", answers.reply.end());
+        let _ = writeln!(text, "{}", String::from_utf8_lossy(stdout));
+        if !stderr.is_empty() {
+            let _ = writeln!(text, "--- its standard error");
+            let _ = writeln!(text, "{}", String::from_utf8_lossy(stderr));
+        }
+        let _ = writeln!(text, "--- handed over as {:?}", answers.manner);
+        let _ = writeln!(text, "--- the text, {} bytes", answers.text.len());
+        let mut bytes = text.into_bytes();
+        bytes.extend_from_slice(&answers.text);
+        bytes.extend_from_slice(b"\n--- end of the text\n");
+        bytes
+    }
+}

@@ -1,0 +1,8 @@
+//! Reads a day sheet from standard input and prints each hour and the total.
+
+use second::{console, day};
+
+fn main() {
+    let answer = day::program(&console::read_all(), &mut console::run());
+    console::print(&answer);
+}

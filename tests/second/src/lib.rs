@@ -1,0 +1,105 @@
+//! The second program: it answers every text of document 01 (an hour block,
+//! a day sheet, a curtailed import) with every check, so that its answers can
+//! be laid beside those of the engine.
+//!
+//! The short way in is [`hour_text`], [`day_text`] and [`import_text`]: bytes
+//! in, the printed answer out. Behind them stand
+//!
+//! - [`hour`]: one hour, from a lent block or from an [`HourRecord`], with the
+//!   lent row of contributions;
+//! - [`day`]: the header, who is excluded, 24 hours and their total;
+//! - [`import`]: the curtailed import of one day;
+//! - [`trace`]: what an input reached, collected on the side.
+//!
+//! ```
+//! use second::{hour, Answer, Ask, Check, Event, HourRecord, Refusal, Run};
+//! use second::trace::Spot;
+//!
+//! // Bytes in, the printed answer out.
+//! assert_eq!(second::hour_text(b""), "refused=1 at=1\n");
+//!
+//! // A record, what is known of its hour, the lent row, and the trace.
+//! let mut run = Run::default();
+//! let mut row = [0; 30];
+//! let ask = Ask { excluded: false, expected: Some(0) };
+//! let answer = hour::judge_record(&HourRecord::default(), ask, &mut row, &mut run);
+//! assert_eq!(answer, Answer::Refused(Refusal::new(Check::Seconds, 0)));
+//! assert!(run.trace.saw(Event::Refused(Check::Seconds, Spot::WholeHour)));
+//! ```
+//!
+//! The programs and everything that judges bytes, lines or records give an
+//! answer on every input, and none of them panics. Power is whole kW, price
+//! whole cents per MWh, time whole seconds, and amounts are in grains
+//! (1/3,600,000 cent), held in 128 bits so that no sum can overflow.
+
+pub mod console;
+pub mod curve;
+pub mod day;
+pub mod derate;
+pub mod energy;
+pub mod hour;
+pub mod import;
+pub mod interval;
+pub mod record;
+pub mod refusal;
+pub mod text;
+pub mod trace;
+
+pub use curve::{Curve, Step, Way};
+pub use day::{Day, DayAnswer, Header};
+pub use hour::{Answer, Ask, Paid};
+pub use import::ImportAnswer;
+pub use record::{DayAhead, HourRecord, Interval};
+pub use refusal::{Check, Refusal};
+pub use trace::{Event, Trace};
+
+/// How a call works and what it noted on the way.
+#[derive(Clone, Debug, Default)]
+pub struct Run {
+    /// How the cost of a stretch of a curve is summed.
+    pub way: Way,
+    /// What the inputs of this run reached so far.
+    pub trace: Trace,
+}
+
+impl Run {
+    /// A run that sums costs in the given way and keeps a trace.
+    pub fn new(way: Way) -> Self {
+        Run {
+            way,
+            trace: Trace::new(),
+        }
+    }
+
+    /// A run without a trace, for long comparisons.
+    pub fn quiet(way: Way) -> Self {
+        Run {
+            way,
+            trace: Trace::off(),
+        }
+    }
+}
+
+/// What the program `hour` prints for this input.
+pub fn hour_text(input: &[u8]) -> String {
+    hour::program(input, &mut Run::quiet(Way::Steps))
+}
+
+/// What the program `day` prints for this input.
+pub fn day_text(input: &[u8]) -> String {
+    day::program(input, &mut Run::quiet(Way::Steps))
+}
+
+/// What the program `import` prints for this input.
+pub fn import_text(input: &[u8]) -> String {
+    import::program(input, &mut Run::quiet(Way::Steps))
+}
+
+/// Grains in a cent: 1000 kW in a MW times 3600 seconds in an hour.
+pub const GRAINS_PER_CENT: i128 = 3_600_000;
+
+/// The cents of a sum: nothing is paid below zero, and the one rounding is
+/// downward, so that 3,599,999 grains pay nothing.
+pub fn cents(grains: i128) -> i128 {
+    grains.max(0) / GRAINS_PER_CENT
+}

@@ -1,0 +1,53 @@
+//! Why a text is not paid: the number of the check and the place.
+
+use std::fmt;
+
+/// The checks, in the order in which they run.
+#[derive(Clone, Copy, Debug, PartialEq, Eq, PartialOrd, Ord, Hash)]
+pub enum Check {
+    /// A line is absent, extra, or not in the sheet's form.
+    Form = 1,
+    /// A number or mark lies outside its range.
+    Range = 2,
+    /// The block says another hour than its place; bytes behind an import.
+    Order = 3,
+    /// A curve breaks a rule.
+    Curve = 4,
+    /// The seconds of the intervals do not make an hour.
+    Seconds = 5,
+    /// The derate takes more than the schedules can give up.
+    Derate = 6,
+    /// A kilowatt that has to be priced has no price.
+    Reach = 7,
+    /// The lent row is too short for the contributions.
+    Room = 8,
+}
+
+impl Check {
+    /// The number that is printed for this check.
+    pub fn number(self) -> u8 {
+        self as u8
+    }
+}
+
+/// A refused hour, header or import block.
+#[derive(Clone, Copy, Debug, PartialEq, Eq, PartialOrd, Ord, Hash)]
+pub struct Refusal {
+    /// The first check that failed.
+    pub check: Check,
+    /// The line or interval, counted from 1; 0 for the block as a whole.
+    pub place: usize,
+}
+
+impl Refusal {
+    /// The refusal by this check at this place.
+    pub fn new(check: Check, place: usize) -> Self {
+        Refusal { check, place }
+    }
+}
+
+impl fmt::Display for Refusal {
+    fn fmt(&self, out: &mut fmt::Formatter<'_>) -> fmt::Result {
+        write!(out, "refused={} at={}", self.check.number(), self.place)
+    }
+}

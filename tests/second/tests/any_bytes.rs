@@ -1,0 +1,130 @@
+//! Every byte string has an answer, in the printed form of document 01.
+
+mod common;
+
+use common::*;
+use second::{day, hour, import, Header, Run, Way};
+
+/// Whether a printed line is `key=number` pairs with these keys; `-` may stand
+/// for a number.
+fn is_line(line: &str, keys: &[&str]) -> bool {
+    let pairs: Vec<_> = line.split(' ').map(|pair| pair.split_once('=')).collect();
+    let fits = |(pair, key): (&Option<(&str, &str)>, &&str)| {
+        pair.is_some_and(|(name, value)| {
+            name == *key && (value == "-" || value.parse::<i64>().is_ok())
+        })
+    };
+    pairs.len() == keys.len() && pairs.iter().zip(keys).all(fits)
+}
+
+fn is_hour_answer(text: &str) -> bool {
+    let lines: Vec<&str> = text.lines().collect();
+    let Some((last, intervals)) = lines.split_last() else {
+        return false;
+    };
+    let refused = intervals.is_empty() && is_line(last, &["refused", "at"]);
+    let paid = is_line(last, &["hour", "pay"]) && (4..=30).contains(&intervals.len());
+    let grains = |line: &&str| is_line(line, &["i", "grains"]);
+    refused || (paid && intervals.iter().all(grains))
+}
+
+fn is_day_answer(text: &str) -> bool {
+    let lines: Vec<&str> = text.lines().collect();
+    if let [only] = lines[..] {
+        return is_line(only, &["refused", "at"]);
+    }
+    let is_hour =
+        |line: &&str| is_line(line, &["hour", "pay"]) || is_line(line, &["hour", "refused", "at"]);
+    let total = lines.last().is_some_and(|line| is_line(line, &["total"]));
+    lines.len() == 25 && total && lines[..24].iter().all(is_hour)
+}
+
+fn is_import_answer(text: &str) -> bool {
+    let line = text.trim_end_matches('\n');
+    is_line(line, &["import", "pay"]) || is_line(line, &["refused", "hour", "at"])
+}
+
+/// Asks all three programs for one text.
+fn ask_all(text: &[u8]) {
+    let run = &mut Run::new(Way::Steps);
+    let shown = || String::from_utf8_lossy(text).into_owned();
+    for (answer, fits) in [
+        (hour::program(text, run), is_hour_answer as fn(&str) -> bool),
+        (day::program(text, run), is_day_answer),
+        (import::program(text, run), is_import_answer),
+    ] {
+        assert!(
+            answer.ends_with('\n') && fits(&answer),
+            "{answer}{}",
+            shown()
+        );
+    }
+}
+
+/// Bytes that a change puts in: digits, signs, and such as stand in no sheet.
+const OTHER_BYTES: &[u8] = b"0123456789-= \n\r\0\x80\xffabcnx";
+
+/// A text with a few bytes changed, or with its end cut off.
+fn changed(text: &[u8], numbers: &mut Numbers) -> Vec<u8> {
+    let mut bytes = text.to_vec();
+    for _ in 0..=numbers.below(3) {
+        let at = numbers.below(bytes.len() as u64) as usize;
+        let other = OTHER_BYTES[numbers.below(OTHER_BYTES.len() as u64) as usize];
+        match numbers.below(5) {
+            0 => bytes.insert(at.min(bytes.len()), other),
+            1 if at < bytes.len() => drop(bytes.remove(at)),
+            2 => bytes.truncate(at),
+            _ => {
+                if let Some(byte) = bytes.get_mut(at) {
+                    *byte = other;
+                }
+            }
+        }
+    }
+    bytes
+}
+
+#[test]
+fn short_texts() {
+    ask_all(b"");
+    for first in 0..=255 {
+        ask_all(&[first]);
+        for second in [b'\n', b'=', 0, b'1'] {
+            ask_all(&[first, second]);
+            ask_all(&[second, first, b'\n']);
+        }
+    }
+}
+
+#[test]
+fn texts_of_any_bytes() {
+    let mut numbers = Numbers(9);
+    for _ in 0..500 {
+        let length = numbers.below(300);
+        let text: Vec<u8> = (0..length).map(|_| numbers.below(256) as u8).collect();
+        ask_all(&text);
+    }
+}
+
+#[test]
+fn changed_hours() {
+    let mut numbers = Numbers(10);
+    for _ in 0..3000 {
+        ask_all(&changed(WORKED.as_bytes(), &mut numbers));
+    }
+}
+
+#[test]
+fn changed_days_and_imports() {
+    let mut numbers = Numbers(11);
+    let day = day_of(&Header::default(), &one_cent_hours());
+    let import = import_of(7, 0, &one_cent_imports());
+    for _ in 0..300 {
+        ask_all(&changed(day.as_bytes(), &mut numbers));
+        ask_all(&changed(import.as_bytes(), &mut numbers));
+        // Near the start, so that headers are met as often as blocks.
+        let mut near = changed(&day.as_bytes()[..400], &mut numbers);
+        near.extend(&day.as_bytes()[400..]);
+        ask_all(&near);
+    }
+}

@@ -1,0 +1,207 @@
+//! Sheets and small changes to them, shared by the tests.
+#![allow(dead_code)]
+
+use second::import::{ImportHour, ImportHourLine, ImportInterval, ImportLine};
+use second::{hour, Answer, Ask, Curve, DayAhead, Header, HourRecord, Interval, Run, Way};
+
+/// The block of document 01's section "Programs".
+pub const WORKED: &str = "\
+hour=14 en=100000 reg=0 r1=0 r2=0 r3=0 breg=0 b1=0 b2=0 b3=0
+da=0 n=2 to=60000 at=2000 to=100000 at=3500
+rt=0 n=2 to=60000 at=2000 to=120000 at=4000
+s=900 en=80000 ae=80000 co=0 eop=90000 pen=5000 lim=70000 uol=- r1=0 r2=0 r3=0 p1=0 p2=0 p3=0 reg=0 preg=0 breg=0 mv=0 pmv=0 bmv=0
+s=900 en=50000 ae=70000 co=3000 eop=90000 pen=5000 lim=45000 uol=- r1=0 r2=0 r3=0 p1=0 p2=0 p3=0 reg=0 preg=0 breg=0 mv=0 pmv=0 bmv=0
+s=900 en=110000 ae=110000 co=0 eop=120000 pen=5000 lim=100000 uol=- r1=0 r2=0 r3=0 p1=0 p2=0 p3=0 reg=0 preg=0 breg=0 mv=0 pmv=0 bmv=0
+s=900 en=100000 ae=95000 co=0 eop=100000 pen=5000 lim=95000 uol=- r1=0 r2=0 r3=0 p1=0 p2=0 p3=0 reg=0 preg=0 breg=0 mv=0 pmv=0 bmv=0
+";
+
+/// What `hour` prints for it.
+pub const WORKED_ANSWER: &str = "\
+i=1 grains=27000000000
+i=2 grains=72900000000
+i=3 grains=-9000000000
+i=4 grains=0
+hour=14 pay=25250
+";
+
+/// An interval of a unit that does nothing, of so many seconds: it does not
+/// lag, and contributes 0.
+pub fn still(seconds: i64) -> Interval {
+    Interval {
+        s: seconds,
+        lim: -1,
+        ..Interval::default()
+    }
+}
+
+/// An hour of a unit that does nothing, in four quarters.
+pub fn still_hour(hour: i64) -> HourRecord {
+    let mut record = HourRecord {
+        day_ahead: DayAhead {
+            hour,
+            ..DayAhead::default()
+        },
+        ..HourRecord::default()
+    };
+    record.set_intervals(&[still(900); 4]);
+    record
+}
+
+/// An hour of 100 kW day-ahead at 10 cents, not run in the first quarter, at
+/// 50 cents: 3,600,000 grains, one cent.
+pub fn one_cent_hour(hour: i64) -> HourRecord {
+    let mut record = still_hour(hour);
+    record.day_ahead.en = 100;
+    record.da = Curve::new(0, &[(100, 10)]);
+    let run = Interval {
+        en: 100,
+        ae: 100,
+        eop: 100,
+        ..still(900)
+    };
+    let cut = Interval {
+        pen: 50,
+        ..still(900)
+    };
+    record.set_intervals(&[cut, run, run, run]);
+    record
+}
+
+/// The answer to a record, by both ways of summing costs, and its row.
+pub fn judged(record: &HourRecord, ask: Ask) -> (Answer, Vec<i64>) {
+    let of = |way| {
+        let mut row = vec![-7; 32];
+        let answer = hour::judge_record(record, ask, &mut row, &mut Run::new(way));
+        (answer, row)
+    };
+    let by_steps = of(Way::Steps);
+    assert_eq!(by_steps, of(Way::Kilowatts));
+    by_steps
+}
+
+/// The contributions of an hour that has to be paid.
+pub fn contributions(record: &HourRecord) -> Vec<i64> {
+    let (answer, row) = judged(record, Ask::default());
+    match answer {
+        Answer::Paid(paid) => row[..paid.intervals].to_vec(),
+        Answer::Refused(refusal) => panic!("{refusal}"),
+    }
+}
+
+/// The block that a record stands for, with its closing empty line.
+pub fn closed(record: &HourRecord) -> String {
+    record.to_text() + "\n"
+}
+
+/// A day sheet of these hours.
+pub fn day_of(header: &Header, hours: &[HourRecord]) -> String {
+    let blocks: Vec<String> = hours.iter().map(closed).collect();
+    header.to_text() + &blocks.concat()
+}
+
+/// 24 hours that pay nothing.
+pub fn still_hours() -> Vec<HourRecord> {
+    (0..24).map(still_hour).collect()
+}
+
+/// 24 hours of one cent each.
+pub fn one_cent_hours() -> Vec<HourRecord> {
+    (0..24).map(one_cent_hour).collect()
+}
+
+/// An import's block whose first quarter is curtailed by 100 kW at 40 cents
+/// above its bid: one cent.
+pub fn one_cent_import(hour: i64) -> ImportHour {
+    let run = ImportInterval {
+        s: 900,
+        cut: 0,
+        prof: 100,
+        rten: 100,
+        lbmp: 50,
+        bid: 5,
+        def: 5,
+    };
+    let cut = ImportInterval {
+        cut: 1,
+        rten: 0,
+        ..run
+    };
+    ImportHour {
+        line: ImportHourLine {
+            hour,
+            den: 100,
+            dec: 10,
+        },
+        intervals: vec![cut, run, run, run],
+    }
+}
+
+/// 24 of them.
+pub fn one_cent_imports() -> Vec<ImportHour> {
+    (0..24).map(one_cent_import).collect()
+}
+
+/// An import of these blocks.
+pub fn import_of(import: i64, cts: i64, hours: &[ImportHour]) -> String {
+    let mut text = String::new();
+    ImportLine { import, cts }.write(&mut text);
+    text.push('\n');
+    for hour in hours {
+        text += &hour.to_text();
+        text.push('\n');
+    }
+    text
+}
+
+/// The text with its line of this number, from 1, replaced.
+pub fn with_line(text: &str, line: usize, new: &str) -> String {
+    let change = |(i, old): (usize, &str)| {
+        let kept = if i + 1 == line { new } else { old };
+        format!("{kept}\n")
+    };
+    text.lines().enumerate().map(change).collect()
+}
+
+/// The text without its line of this number, from 1.
+pub fn without_line(text: &str, line: usize) -> String {
+    let lines = text.lines().enumerate().filter(|(i, _)| i + 1 != line);
+    lines.map(|(_, kept)| format!("{kept}\n")).collect()
+}
+
+/// The text with this line in front of the line of this number.
+pub fn with_line_before(text: &str, line: usize, new: &str) -> String {
+    let old = text.lines().nth(line - 1).unwrap_or_default();
+    with_line(text, line, &format!("{new}\n{old}"))
+}
+
+/// The text with another value behind a key of a line.
+pub fn with_value(text: &str, line: usize, key: &str, value: &str) -> String {
+    let old = text.lines().nth(line - 1).expect("the line is there");
+    let change = |pair: &str| match pair.split_once('=') {
+        Some((name, _)) if name == key => format!("{key}={value}"),
+        _ => pair.to_string(),
+    };
+    let pairs: Vec<String> = old.split(' ').map(change).collect();
+    let key_is_there = old
+        .split(' ')
+        .any(|pair| pair.starts_with(&format!("{key}=")));
+    assert!(key_is_there, "{key} on line {line}");
+    with_line(text, line, &pairs.join(" "))
+}
+
+/// A row of digits that a test can repeat.
+pub struct Numbers(pub u64);
+
+impl Numbers {
+    /// A number from 0 to below the bound.
+    pub fn below(&mut self, bound: u64) -> u64 {
+        self.0 = self.0.wrapping_mul(6_364_136_223_846_793_005);
+        self.0 = self.0.wrapping_add(1_442_695_040_888_963_407);
+        (self.0 >> 33) % bound.max(1)
+    }
+
+    /// A number from `low` to `high`.
+    pub fn between(&mut self, low: i64, high: i64) -> i64 {
+        low + self.below((high - low + 1) as u64) as i64
+    }
+}

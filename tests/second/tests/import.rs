@@ -1,0 +1,264 @@
+//! Curtailed imports.
+
+mod common;
+
+use common::*;
+use second::import::ImportHour;
+use second::import_text;
+
+fn print(text: &str) -> String {
+    import_text(text.as_bytes())
+}
+
+#[track_caller]
+fn refused(text: &str, check: u8, hour: &str, line: usize) {
+    let expected = format!("refused={check} hour={hour} at={line}\n");
+    assert_eq!(print(text), expected, "{text}");
+}
+
+#[track_caller]
+fn pays(text: &str, cents: i64) {
+    assert_eq!(print(text), format!("import=7 pay={cents}\n"));
+}
+
+fn good() -> String {
+    import_of(7, 0, &one_cent_imports())
+}
+
+/// The blocks' first lines stand on lines 3, 9, 15 and so on of the text.
+fn line_of(hour: usize, line: usize) -> usize {
+    2 + hour * 6 + line
+}
+
+fn with_hour(hour: usize, change: impl Fn(&mut ImportHour)) -> String {
+    let mut hours = one_cent_imports();
+    change(&mut hours[hour]);
+    import_of(7, 0, &hours)
+}
+
+#[test]
+fn a_good_import() {
+    let text = good();
+    let start = "import=7 cts=0\n\nhour=0 den=100 dec=10\n\
+                 s=900 cut=1 prof=100 rten=0 lbmp=50 bid=5 def=5\n";
+    assert!(text.starts_with(start));
+    pays(&text, 24);
+    pays(&text[..text.len() - 1], 24);
+}
+
+#[test]
+fn the_first_two_lines() {
+    let text = good();
+    refused("", 1, "-", 1);
+    refused("\n", 1, "-", 1);
+    refused("import=7 cts=0", 1, "-", 1);
+    refused("import=7 cts=0\n", 1, "-", 2);
+    refused("import=7 cts=0\n\n", 1, "0", 1);
+    refused(&format!("\n{text}"), 1, "-", 1);
+    refused(&without_line(&text, 2), 1, "-", 2);
+    refused(&with_line(&text, 2, "\r"), 1, "-", 2);
+    refused("import=7 cts=0\nx", 1, "-", 2);
+    for line in [
+        "import=7",
+        "cts=0 import=7",
+        "import=7 cts=0 ",
+        "import=07 cts=0",
+        "import=7 cts=",
+    ] {
+        refused(&with_line(&text, 1, line), 1, "-", 1);
+    }
+    for value in ["0", "-1", "-9999999"] {
+        refused(&with_value(&text, 1, "import", value), 2, "-", 1);
+    }
+    for value in ["2", "-1", "17"] {
+        refused(&with_value(&text, 1, "cts", value), 2, "-", 1);
+    }
+    refused(&with_value(&text, 1, "import", "12345678"), 1, "-", 1);
+    let last = with_value(&text, 1, "import", "9999999");
+    assert_eq!(print(&last), "import=9999999 pay=24\n");
+    // The two lines are one header: FORM of the second before RANGE.
+    let range = with_value(&text, 1, "cts", "2");
+    refused(&without_line(&range, 2), 1, "-", 2);
+}
+
+#[test]
+fn the_first_refused_block_refuses_the_day() {
+    let seconds = with_value(&good(), line_of(3, 5), "s", "899");
+    refused(&seconds, 5, "3", 0);
+    let form_later = with_value(&seconds, line_of(5, 1), "den", "07");
+    refused(&form_later, 5, "3", 0);
+    refused(&with_value(&good(), line_of(5, 1), "den", "07"), 1, "5", 1);
+    // Bytes behind the last block are asked for last.
+    refused(&(seconds + "\n"), 5, "3", 0);
+    refused(&(good() + "\n"), 3, "-", 0);
+    refused(&(good() + "x"), 3, "-", 0);
+    refused(&(good() + "\n\n"), 3, "-", 0);
+}
+
+#[test]
+fn a_block_of_few_or_many_lines() {
+    let hours = one_cent_imports();
+    let two = import_of(7, 0, &hours[..2]);
+    refused(&two, 1, "2", 1);
+    refused(&(two.clone() + "\n"), 1, "2", 1);
+    refused(&(two.clone() + "hour=2 den=5 dec=5\n"), 5, "2", 0);
+    refused(&(two.clone() + "hour=2 den=5 dec=5"), 1, "2", 1);
+    let quiet = "s=120 cut=0 prof=0 rten=0 lbmp=0 bid=0 def=0\n";
+    let thirty = format!("{two}hour=2 den=5 dec=5\n{}", quiet.repeat(30));
+    refused(&thirty, 1, "3", 1);
+    refused(&(thirty.clone() + quiet), 1, "2", 32);
+    refused(&(thirty.clone() + "what"), 1, "2", 32);
+    refused(&(thirty.clone() + "x\nx\nx\nx\nx\nx\n"), 1, "2", 32);
+    refused(&(thirty + "\nhour=3"), 1, "3", 1);
+    let unended = good();
+    refused(&unended[..unended.len() - 2], 1, "23", 5);
+    let text = good();
+    refused(&format!("{}x\n", &text[..text.len() - 1]), 1, "23", 6);
+}
+
+#[test]
+fn empty_lines_move_blocks_down() {
+    refused(&with_line_before(&good(), line_of(4, 1), ""), 1, "4", 1);
+    refused(&with_line_before(&good(), 3, ""), 1, "0", 1);
+}
+
+#[test]
+fn order_stands_between_range_and_seconds() {
+    let other = with_value(&good(), line_of(4, 1), "hour", "5");
+    refused(&other, 3, "4", 1);
+    refused(&with_value(&other, line_of(4, 5), "s", "899"), 3, "4", 1);
+    refused(&with_value(&other, line_of(4, 5), "s", "901"), 2, "4", 5);
+    let both = with_value(&other, line_of(4, 5), "s", "901");
+    refused(&with_value(&both, line_of(4, 3), "s", "x"), 1, "4", 3);
+}
+
+#[test]
+fn keys_and_numbers() {
+    let text = good();
+    for (line, key) in [
+        (1, "hour"),
+        (1, "den"),
+        (1, "dec"),
+        (2, "s"),
+        (3, "cut"),
+        (4, "prof"),
+        (5, "rten"),
+        (2, "lbmp"),
+        (3, "bid"),
+        (4, "def"),
+    ] {
+        for value in ["07", "-0", "+5", "-", "", "12345678"] {
+            refused(
+                &with_value(&text, line_of(9, line), key, value),
+                1,
+                "9",
+                line,
+            );
+        }
+    }
+    for (line, bad) in [
+        (1, "hour=9 den=5"),
+        (1, "hour=9 dec=5 den=5"),
+        (1, "hour=9 den=5 dec=5 "),
+        (1, "9 5 5"),
+        (2, "s=900 cut=0 prof=0 rten=0 lbmp=0 bid=0"),
+        (2, "s=900 cut=0 prof=0 rten=0 lbmp=0 bid=0 def=0 x=1"),
+        (2, "s=900 cut=0  prof=0 rten=0 lbmp=0 bid=0 def=0"),
+    ] {
+        refused(&with_line(&text, line_of(9, line), bad), 1, "9", line);
+    }
+}
+
+#[test]
+fn ranges() {
+    let text = good();
+    for (line, key, low, high) in [
+        (1, "hour", 0, 23),
+        (1, "den", 0, 2_000_000),
+        (1, "dec", -1_000_000, 1_000_000),
+        (3, "s", 1, 900),
+        (3, "cut", 0, 1),
+        (3, "prof", 0, 2_000_000),
+        (3, "rten", 0, 2_000_000),
+        (3, "lbmp", -1_000_000, 1_000_000),
+        (3, "bid", -1_000_000, 1_000_000),
+        (3, "def", -1_000_000, 1_000_000),
+    ] {
+        for outside in [low - 1, high + 1] {
+            let text = with_value(&text, line_of(9, line), key, &outside.to_string());
+            refused(&text, 2, "9", line);
+        }
+        for inside in [low, high] {
+            let text = with_value(&text, line_of(9, line), key, &inside.to_string());
+            assert!(!print(&text).starts_with("refused=2"), "{key}={inside}");
+        }
+    }
+}
+
+#[test]
+fn which_intervals_count() {
+    pays(&with_hour(9, |h| h.intervals[0].cut = 0), 23);
+    pays(&with_hour(9, |h| h.intervals[0].prof = 99), 23);
+    pays(&with_hour(9, |h| h.intervals[0].prof = 101), 24);
+    pays(&with_hour(9, |h| h.intervals[0].bid = 6), 23);
+    pays(&with_hour(9, |h| h.intervals[0].bid = 4), 24);
+    pays(&import_of(7, 1, &one_cent_imports()), 0);
+    let cts = import_of(7, 1, &one_cent_imports());
+    refused(&with_value(&cts, line_of(2, 2), "s", "899"), 5, "2", 0);
+}
+
+#[test]
+fn amounts() {
+    // A bid below zero counts as zero: the margin is the price, 40 cents.
+    let negative_bid = with_hour(9, |h| {
+        h.line.dec = -1000;
+        h.intervals[0].lbmp = 40;
+    });
+    pays(&negative_bid, 24);
+    // An hour with a loss takes nothing from the others.
+    pays(&with_hour(9, |h| h.intervals[0].lbmp = -50), 23);
+    // Inside an hour a loss is offset.
+    let offset = with_hour(9, |h| {
+        h.intervals[0].lbmp = 90;
+        h.intervals[1] = h.intervals[0];
+        h.intervals[1].lbmp = -30;
+    });
+    pays(&offset, 24);
+    // More energy in real time than day-ahead is a loss as well.
+    let more = with_hour(9, |h| {
+        h.intervals[0].lbmp = 90;
+        h.intervals[1] = h.intervals[0];
+        h.intervals[1].rten = 150;
+    });
+    pays(&more, 24);
+    // An interval that is not curtailed offsets nothing.
+    let free = with_hour(9, |h| h.intervals[1].rten = 2_000_000);
+    pays(&free, 24);
+}
+
+#[test]
+fn the_day_is_rounded_once() {
+    let mut hours = one_cent_imports();
+    for hour in hours.iter_mut() {
+        // 40 cents over 99 kW: 3,564,000 grains an hour.
+        hour.line.den = 99;
+    }
+    pays(&import_of(7, 0, &hours), 24 * 3_564_000 / 3_600_000);
+}
+
+#[test]
+fn the_largest_import() {
+    let mut hours = one_cent_imports();
+    for hour in hours.iter_mut() {
+        hour.line.den = 2_000_000;
+        hour.line.dec = 0;
+        for interval in hour.intervals.iter_mut() {
+            interval.cut = 1;
+            interval.prof = 2_000_000;
+            interval.rten = 0;
+            interval.lbmp = 1_000_000;
+        }
+    }
+    let cents = 2_000_000 * 1_000_000 * 3600 * 24 / 3_600_000;
+    pays(&import_of(7, 0, &hours), cents);
+}

@@ -1,0 +1,141 @@
+//! The three programs as they are run.
+
+mod common;
+
+use std::fs::File;
+use std::io::{Read, Write};
+use std::process::{Command, Output, Stdio};
+
+use common::*;
+use second::Header;
+
+const HOUR: &str = env!("CARGO_BIN_EXE_hour2");
+const DAY: &str = env!("CARGO_BIN_EXE_day2");
+const IMPORT: &str = env!("CARGO_BIN_EXE_import2");
+
+fn start(program: &str, arguments: &[&str]) -> std::process::Child {
+    let mut command = Command::new(program);
+    command.args(arguments).stdin(Stdio::piped());
+    command.stdout(Stdio::piped()).stderr(Stdio::piped());
+    command.spawn().expect("the program starts")
+}
+
+fn run_with(program: &str, arguments: &[&str], input: &[u8]) -> Output {
+    let mut child = start(program, arguments);
+    let mut stdin = child.stdin.take().expect("a pipe");
+    // The program may have its answer before it has read everything.
+    let _ = stdin.write_all(input);
+    drop(stdin);
+    child.wait_with_output().expect("the program ends")
+}
+
+#[track_caller]
+fn prints(program: &str, input: &str, answer: &str) {
+    for arguments in [&[][..], &["--kilowatts"][..]] {
+        let output = run_with(program, arguments, input.as_bytes());
+        assert_eq!(String::from_utf8_lossy(&output.stdout), answer);
+        assert_eq!(output.stderr, b"");
+        assert!(output.status.success());
+    }
+}
+
+#[test]
+fn hour_prints_the_worked_example() {
+    prints(HOUR, WORKED, WORKED_ANSWER);
+    prints(HOUR, &format!("{WORKED}\n{WORKED}"), WORKED_ANSWER);
+}
+
+#[test]
+fn refusals_are_answers() {
+    prints(HOUR, "", "refused=1 at=1\n");
+    prints(HOUR, "\n", "refused=1 at=1\n");
+    prints(HOUR, &WORKED[..WORKED.len() - 1], "refused=1 at=7\n");
+    prints(HOUR, &with_value(WORKED, 7, "s", "899"), "refused=5 at=0\n");
+    prints(DAY, "", "refused=1 at=1\n");
+    prints(IMPORT, "", "refused=1 hour=- at=1\n");
+    prints(IMPORT, "import=1 cts=0\n\n", "refused=1 hour=0 at=1\n");
+}
+
+#[test]
+fn day_and_import_print_their_totals() {
+    let hours: String = (0..24).map(|hour| format!("hour={hour} pay=1\n")).collect();
+    let text = day_of(&Header::default(), &one_cent_hours());
+    prints(DAY, &text, &format!("{hours}total=24\n"));
+    prints(DAY, &(text + "\n"), &format!("{hours}total=-\n"));
+    let text = import_of(7, 0, &one_cent_imports());
+    prints(IMPORT, &text, "import=7 pay=24\n");
+    prints(IMPORT, &(text + "\n"), "refused=3 hour=- at=0\n");
+}
+
+#[test]
+fn hour_does_not_wait_for_what_follows() {
+    let mut child = start(HOUR, &[]);
+    let mut stdin = child.stdin.take().expect("a pipe");
+    stdin
+        .write_all(WORKED.as_bytes())
+        .expect("the program reads");
+    stdin.write_all(b"\n").expect("the program reads");
+    // The input stays open while the answer is read to its end.
+    let mut answer = String::new();
+    let mut stdout = child.stdout.take().expect("a pipe");
+    stdout.read_to_string(&mut answer).expect("an answer");
+    assert_eq!(answer, WORKED_ANSWER);
+    assert!(child.wait().expect("the program ends").success());
+    drop(stdin);
+}
+
+#[test]
+fn hour_does_not_read_what_follows() {
+    let path = std::env::temp_dir().join(format!("second-{}.txt", std::process::id()));
+    let other = with_value(WORKED, 1, "hour", "15");
+    let text = format!("{WORKED}\n{other}\nwhat\n");
+    std::fs::write(&path, text).expect("a file");
+    let file = File::open(&path).expect("a file");
+    // One open file, read by one program after the other.
+    let mut answers = Vec::new();
+    for _ in 0..4 {
+        let mut command = Command::new(HOUR);
+        command.stdin(file.try_clone().expect("the same file"));
+        let output = command.output().expect("the program ends");
+        answers.push(String::from_utf8_lossy(&output.stdout).into_owned());
+    }
+    std::fs::remove_file(&path).expect("the file is there");
+    assert_eq!(answers[0], WORKED_ANSWER);
+    assert_eq!(answers[1], WORKED_ANSWER.replace("hour=14", "hour=15"));
+    assert_eq!(answers[2], "refused=1 at=1\n");
+    assert_eq!(answers[3], "refused=1 at=1\n");
+}
+
+#[test]
+fn a_closed_output_does_no_harm() {
+    let day = day_of(&Header::default(), &one_cent_hours());
+    let import = import_of(7, 0, &one_cent_imports());
+    for (program, input) in [(HOUR, WORKED), (DAY, &day), (IMPORT, &import)] {
+        let mut child = start(program, &[]);
+        drop(child.stdout.take());
+        let mut stdin = child.stdin.take().expect("a pipe");
+        stdin
+            .write_all(input.as_bytes())
+            .expect("the program reads");
+        drop(stdin);
+        let output = child.wait_with_output().expect("the program ends");
+        assert_eq!(output.stderr, b"");
+        assert!(output.status.success());
+    }
+}
+
+#[test]
+fn an_input_that_cannot_be_read_is_empty() {
+    for (program, answer) in [
+        (HOUR, "refused=1 at=1\n"),
+        (DAY, "refused=1 at=1\n"),
+        (IMPORT, "refused=1 hour=- at=1\n"),
+    ] {
+        let directory = File::open(env!("CARGO_MANIFEST_DIR")).expect("a directory");
+        let output = Command::new(program).stdin(directory).output();
+        let output = output.expect("the program ends");
+        assert_eq!(String::from_utf8_lossy(&output.stdout), answer);
+        assert_eq!(output.stderr, b"");
+        assert!(output.status.success());
+    }
+}
