@@ -27,7 +27,7 @@ done
 
 work=target/faults.$$
 mkdir -p "$work" || exit 2
-trap 'rm -rf "$work"' EXIT
+trap 'rm -rf "$work"; rmdir target 2>/dev/null' EXIT
 trap 'exit 2' HUP INT TERM
 
 passed=0
@@ -268,7 +268,7 @@ status=$?
 answered "a number of 50 MB in line 3"
 
 cp "$work/paid" "$work/want"
-{ cat "$work/closed"; fifty a 2>/dev/null; } | within 300 "$hour" >"$work/got" 2>"$work/err"
+{ cat "$work/closed"; fifty a; } 2>/dev/null | within 300 "$hour" >"$work/got" 2>"$work/err"
 status=$?
 answered "50 MB behind the empty line"
 

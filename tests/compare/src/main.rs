@@ -18,7 +18,7 @@ seed, hands each one to the program PATH and compares what it prints with the
 second program. A text that fails is written to DIR, target/compare without
 --out. --only compares the text of one index, --show prints it. --all counts
 every event that was reached. The exit status is 1 if anything failed or if a
-wanted event was never reached.
+wanted event was never reached, which takes some 3000 texts.
 ";
 
 struct Arguments {

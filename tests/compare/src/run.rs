@@ -226,6 +226,22 @@ impl Answers {
     fn agree(&self) -> bool {
         self.reply.is(&self.second)
     }
+
+    /// The first line that differs, and how the program ended.
+    fn difference(&self) -> String {
+        let printed = String::from_utf8_lossy(&self.reply.stdout);
+        let mut wanted = self.second.split_inclusive('\n');
+        let mut got = printed.split_inclusive('\n');
+        let end = self.reply.end();
+        loop {
+            let (wanted, got) = (wanted.next(), got.next());
+            if wanted != got || wanted.is_none() {
+                let shown = |line: Option<&str>| format!("{:?}", line.unwrap_or_default());
+                let (wanted, got) = (shown(wanted), shown(got));
+                return format!("second says {wanted}, program says {got} ({end})");
+            }
+        }
+    }
 }
 
 impl Asker<'_> {
@@ -250,7 +266,13 @@ impl Asker<'_> {
             return Ok(None);
         }
         let name = format!("failing-{}{}-{index}.txt", self.prefix(), self.job.seed);
-        self.write(&name, case.recipe, "", &[&answers]).map(Some)
+        self.write(
+            &name,
+            case.recipe,
+            &format!("index: {index}\n"),
+            &[&answers],
+        )
+        .map(Some)
     }
 
     /// Compares a pair: both texts, and the bond between the answers of each
@@ -278,7 +300,7 @@ impl Asker<'_> {
             self.job.seed
         );
         let about = format!(
-            "the answers should be bound so: {:?}\nof the second program they are: {second}\nof the program outside they are: {outside}\n",
+            "index of the pair: {index}\nthe answers should be bound so: {:?}\nof the second program they are: {second}\nof the program outside they are: {outside}\n",
             pair.bond
         );
         self.write(&name, pair.name, &about, &[&before, &after])
@@ -302,19 +324,17 @@ impl Asker<'_> {
     ) -> io::Result<Failure> {
         fs::create_dir_all(&self.job.out)?;
         let path = self.job.out.join(name);
-        let mut file = format!("seed: {}\nmade as: {recipe}\n{about}", self.job.seed).into_bytes();
+        let mut file = format!(
+            "{} of seed {}\nmade as: {recipe}\n{about}",
+            self.job.program.name, self.job.seed
+        )
+        .into_bytes();
         for answers in all {
             file.extend(self.describe(answers));
         }
         fs::write(&path, file)?;
         let differs = all.iter().find(|answers| !answers.agree());
-        let line = differs.map_or("bond broken".to_string(), |answers| {
-            let printed = String::from_utf8_lossy(&answers.reply.stdout);
-            let last = |text: &str| text.lines().last().unwrap_or_default().to_string();
-            let (wanted, got) = (last(&answers.second), last(&printed));
-            let end = answers.reply.end();
-            format!("second says {wanted:?}, program says {got:?} ({end})")
-        });
+        let line = differs.map_or("bond broken".to_string(), |answers| answers.difference());
         Ok(Failure {
             line: format!("{} ({recipe}): {line}", path.display()),
             in_time: all.iter().all(|answers| answers.reply.status.is_some()),
