@@ -1,8 +1,6 @@
 // Document 01's worked hour, and the same hour with a day-ahead curve that ends one kilowatt short, settled and printed.
-use libc::STDOUT_FILENO;
 use tariff::Answer;
 use tariff::Cents;
-use tariff::Check;
 use tariff::Curve;
 use tariff::DayAhead;
 use tariff::Expected;
@@ -13,13 +11,6 @@ use tariff::MovePrice;
 use tariff::Price;
 use tariff::Seconds;
 use tariff::Uol;
-
-fn print_number(v: i64) {
-    if v < 0 {
-        io::write_all(STDOUT_FILENO, b"-");
-    }
-    io::print_decimal(STDOUT_FILENO, units::magnitude(v));
-}
 
 // Two steps from 0: the minimum generation block, and the rest up to `end`.
 fn curve_to(end: i64, price: i64) -> Curve {
@@ -89,59 +80,22 @@ fn hour_14(da_end: i64) -> Hour {
     }
 }
 
-fn number_of(check: Check) -> u64 {
-    match check {
-        Check::Form(_) => 1,
-        Check::Range(_) => 2,
-        Check::Order => 3,
-        Check::Curve(_) => 4,
-        Check::Seconds => 5,
-        Check::Derate(_) => 6,
-        Check::Reach(_) => 7,
-        Check::Room => 8,
-    }
-}
-
-fn place_of(check: Check) -> usize {
-    match check {
-        Check::Form(line) => line,
-        Check::Range(line) => line,
-        Check::Order => 1,
-        Check::Curve(line) => line,
-        Check::Seconds => 0,
-        Check::Derate(interval) => interval,
-        Check::Reach(interval) => interval,
-        Check::Room => 0,
-    }
-}
-
-fn print_refusal(check: Check) {
-    io::write_all(STDOUT_FILENO, b"refused=");
-    io::print_decimal(STDOUT_FILENO, number_of(check));
-    io::write_all(STDOUT_FILENO, b" at=");
-    io::print_decimal(STDOUT_FILENO, place_of(check) as u64);
-    io::write_all(STDOUT_FILENO, b"\n");
-}
-
 fn print_interval(i: u64, grains: i64) {
-    io::write_all(STDOUT_FILENO, b"i=");
-    io::print_decimal(STDOUT_FILENO, i);
-    io::write_all(STDOUT_FILENO, b" grains=");
-    print_number(grains);
-    io::write_all(STDOUT_FILENO, b"\n");
+    printer::print_count(b"i=", i);
+    printer::print_signed(b" grains=", grains);
+    printer::end_line();
 }
 
 fn print_pay(cents: Cents) {
-    io::write_all(STDOUT_FILENO, b"hour=14 pay=");
-    print_number(cents.0);
-    io::write_all(STDOUT_FILENO, b"\n");
+    printer::print_signed(b"hour=14 pay=", cents.0);
+    printer::end_line();
 }
 
 fn print_hour(h: Hour) {
     let mut row = [0i64; 4];
     let answer = engine::settle(h, false, Expected::Any, &mut row);
     match answer {
-        Answer::Refused(check) => print_refusal(check),
+        Answer::Refused(check) => printer::print_refusal(check),
         Answer::Paid(_, cents) => {
             print_interval(1, row[0]);
             print_interval(2, row[1]);
