@@ -1,0 +1,2 @@
+-- The laws of the crate's public functions that reply.
+pub mod Unique
