@@ -4,5 +4,6 @@ pub mod Order
 pub mod Range
 pub mod Bits
 pub mod Sums
+pub mod Tests
 pub mod Calls
 pub mod Unique

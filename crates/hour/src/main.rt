@@ -20,7 +20,7 @@ fn read_text(text: &mut [u8]) -> usize
         }
         text[n] = one[0];
         n += 1;
-        if sheet::is_whole(text, n) {
+        if lines::is_whole(text, n) {
             return n;
         }
     }

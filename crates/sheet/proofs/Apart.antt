@@ -1,49 +1,30 @@
 -- Two block texts that differ in their curve lines only are read to hours that are alike in all but their curves.
-use mathlib.Core.Path.{_≡_, sym, ap, fun-ext, _∙_}
+use mathlib.Core.Path.{_≡_, refl, sym, ap, fun-ext, _∙_}
 use mathlib.Core.Bool.{true}
 use mathlib.Core.List.{List, _++_, append-assoc}
 use Prim.Native.Nat.{ℕ, _+_, _≤_, _<_}
 use native.Mathlib.Nat.{add-zero, zero-add}
 use native.Mathlib.Omega.{arith}
-use borrow.Author.Tests.{eqb-true}
-use lib.Dec.{eqb}
 use lib.IntN.{ℤ}
 use lib.ListN.{length, length-append, List·getD-append, List·getD-eq-default}
 use lib.Seq.{getD-append-add}
-use Rattle.exact.specs.Choice.{if_then_else_}
-use Rattle.exact.proofs.Parts.{by-test}
 use Rattle.tariff.specs.declared.Curve.{Curve}
 use Rattle.tariff.specs.declared.Hour.{Hour}
 use Rattle.tariff.specs.Hour.{blank}
 use Rattle.tariff.specs.Demand.{Alike}
-use Rattle.text.specs.Text.{byteAt, keyAt}
-use Rattle.sheet.specs.Line.{andThen, afterFields, valueIn, lineFeed, lineAt, filled}
-use Rattle.sheet.specs.Block.{aheadOf, curveLine, curveOf, intervalAt, Rows, counted, brokenRow, rowsAt, broken, read, withRows, afterLine2, blockAt, blockOf}
+use Rattle.text.specs.Text.{byteAt}
+use Rattle.lines.specs.Line.{andThen, valueIn, filled}
+use Rattle.lines.specs.Rows.{Rows, counted, brokenRow, rowsAt}
+use Rattle.sheet.specs.Block.{aheadOf, curveLine, curveOf, intervalOf, intervalAt, broken, read, withRows, afterLine2, blockAt, blockOf}
 use Rattle.sheet.specs.Apart.{InThree, CurvesApart}
 use Rattle.text.specs.declared.Next.{Next}
 use Rattle.text.specs.declared.Next.the-variants.{At, Wrong}
-use Rattle.sheet.proofs.Along.{closing, Along, never-at, values-along}
-use Rattle.sheet.proofs.AlongBlock.{Ended, intervals-ended, rows-ended}
+use Rattle.lines.proofs.Along.{closing, Along, never-at, values-along}
+use Rattle.lines.proofs.Ended.{Ended, Fed, line-fed}
+use Rattle.lines.proofs.RowsEnded.{each-ended, rows-ended}
 
 pub never-read : {line : ℕ} {h : Hour} → broken line ≡ read h → ⊥
 never-read e = let z : _≡_ {A = ℕ} 0 1 = cc in omega arith
-
--- a line that is read ends in a line feed
-record Fed (s : List ℕ) (k : ℕ) : Type 0 where
-  at : ℕ
-  next : at + 1 ≡ k
-  feed : byteAt s at ≡ 10
-
-fed : (s : List ℕ) (k : ℕ) (a : Next) → andThen a (lineFeed s) ≡ At k → Fed s k
-unfolding keyAt
-fed s k (At i) = by-test (eqb (byteAt s i) 10) (λ b. (if b then At (i + 1) else Wrong) ≡ At k → Fed s k)
-    (λ h e. record { at = i; next = cc; feed = eqb-true (byteAt s i) 10 h })
-    (λ h e. absurd (never-at e))
-fed s k Wrong = λ e. absurd (never-at e)
-
-line-fed : (first n : ℕ) (s : List ℕ) (at k : ℕ) → lineAt first n s at ≡ At k → Fed s k
-unfolding lineAt
-line-fed first n s at k e = fed s k (afterFields first n s at) e
 
 -- ---- a text in three parts: its bytes, and what it is read as
 module _ {s first curves rest : List ℕ} (o : InThree s first curves rest) where
@@ -62,10 +43,10 @@ module _ {s first curves rest : List ℕ} (o : InThree s first curves rest) wher
   record Behind : Type 0 where
     da : Curve
     rt : Curve
-    same : blockOf s ≡ withRows (valueIn 0 s 0) da rt s behind (rowsAt 30 s behind 0)
+    same : blockOf s ≡ withRows (valueIn 0 s 0) da rt s behind (rowsAt 16 20 4 30 s behind 0)
 
   after-curves : (v : ℕ → ℤ) (da : Curve) (a : Next) → andThen a (curveLine 12 s) ≡ At behind
-      → (rt : Curve) × (afterLine2 a v da s ≡ withRows v da rt s behind (rowsAt 30 s behind 0))
+      → (rt : Curve) × (afterLine2 a v da s ≡ withRows v da rt s behind (rowsAt 16 20 4 30 s behind 0))
   after-curves v da (At i) e = (curveOf 12 s i, rw e)
   after-curves v da Wrong e = absurd (never-at e)
 
@@ -96,11 +77,11 @@ module _ {s t first curves others rest : List ℕ} (o : InThree s first curves r
     other = rest-ends u (length rest + 1) (omega arith);
   }
 
-  rows-same : rowsAt 30 s (behind o) 0 ≡ rowsAt 30 t (behind u) 0
-  rows-same = simp add-zero at (rows-ended rest-ended 30 0 0 (omega arith))
+  rows-same : rowsAt 16 20 4 30 s (behind o) 0 ≡ rowsAt 16 20 4 30 t (behind u) 0
+  rows-same = simp add-zero at (rows-ended rest-ended 16 19 refl 4 30 0 0 (omega arith))
 
   intervals-same : intervalAt s (behind o) ≡ intervalAt t (behind u)
-  intervals-same = simp add-zero at (intervals-ended rest-ended 0 (omega arith))
+  intervals-same = simp add-zero at (each-ended rest-ended 16 19 refl intervalOf blank 0 (omega arith))
 
 -- ---- hours that are alike in all but their curves
 module _ (v : ℕ → ℤ) (s t : List ℕ) (a b : ℕ) (e : intervalAt s a ≡ intervalAt t b) (da rt da′ rt′ : Curve) where
@@ -131,7 +112,7 @@ module _ (s t : List ℕ) (o : CurvesApart s t) where
   other = block-behind (o .other)
 
   abbrev rows : Rows
-  rows = rowsAt 30 s (behind (o .one)) 0
+  rows = rowsAt 16 20 4 30 s (behind (o .one)) 0
 
   other-same : blockOf t ≡ withRows (valueIn 0 s 0) (other .da) (other .rt) t (behind (o .other)) rows
   other-same = rw (first-same (o .one) (o .other), rows-same (o .one) (o .other)) (other .same)

@@ -10,7 +10,7 @@ use Rattle.tariff.specs.declared.DayAhead.{DayAhead}
 use Rattle.text.specs.declared.Next.the-variants.{At, Wrong}
 use Rattle.sheet.specs.declared.block.RowsRead.{RowsRead}
 use Rattle.sheet.specs.declared.block.BlockRead.{BlockRead}
-use Rattle.sheet.specs.Line.{valueIn, lineAt}
+use Rattle.lines.specs.Line.{valueIn, lineAt}
 use Rattle.sheet.specs.Block.{aheadOf, curveLine, curveOf, RowsReadAt, broken, read, blockAt, blockOf, blockTold}
 
 module _ (s : List ℕ) (from : ℕ) where

@@ -2,19 +2,21 @@
 use mathlib.Core.Path.{_≡_, refl, sym, ap, fun-ext, _∙_}
 use mathlib.Core.List.{List, [], _∷_, _++_, append-assoc}
 use Prim.Native.Nat.{ℕ, _+_}
-use native.Mathlib.Nat.{zero-add}
 use native.Mathlib.Omega.{arith}
 use lib.IntN.{ℤ}
-use lib.ListN.{length, length-append, List·getD-append, List·getD-eq-default}
-use lib.Seq.{append-snoc, getD-append-seam}
+use lib.Seq.{append-snoc}
+use Rattle.tariff.specs.Hour.{blank}
 use Rattle.tariff.specs.declared.Curve.{Curve}
-use Rattle.text.specs.Text.{byteAt, keyAt}
-use Rattle.sheet.specs.Line.{fieldAt, afterFields, lineAt, valueIn}
-use Rattle.sheet.specs.Block.{intervalAt, Rows, counted, brokenRow, rowsAt, broken, withRows, afterLine1, afterLine2, afterLine3, blockAt, blockOf}
+use Rattle.text.specs.Text.{keyAt}
+use Rattle.lines.specs.Line.{fieldAt, afterFields, lineAt, valueIn}
+use Rattle.lines.specs.Rows.{Rows, counted, brokenRow, rowsAt}
+use Rattle.sheet.specs.Block.{intervalOf, intervalAt, broken, withRows, afterLine1, afterLine2, afterLine3, blockAt, blockOf}
 use Rattle.sheet.specs.Closed.{Closed, atOnce, afterLine}
 use Rattle.text.specs.declared.Next.{Next}
-use Rattle.sheet.proofs.Along.{closing, Moved, both, neither}
-use Rattle.sheet.proofs.AlongBlock.{Ended, line-ended, values-ended, curve-line-ended, curve-ended, intervals-ended, rows-ended}
+use Rattle.lines.proofs.Along.{Moved, both, neither}
+use Rattle.lines.proofs.Ended.{Ended, line-ended, values-ended, lines-ended}
+use Rattle.lines.proofs.RowsEnded.{each-ended, rows-ended}
+use Rattle.sheet.proofs.AlongBlock.{curve-line-ended, curve-ended}
 
 -- the rest of a block, from its counted lines
 pub rest-same : (v : ℕ → ℤ) (da rt : Curve) (s t : List ℕ) (a b : ℕ) (r : Rows) → intervalAt s a ≡ intervalAt t b → withRows v da rt s a r ≡ withRows v da rt t b r
@@ -24,7 +26,7 @@ rest-same v da rt s t a b (brokenRow line) e = refl
 -- two texts that are the same up to the end of the block
 module _ {s t : List ℕ} {m : ℕ} (o : Ended s t 0 0 m) where
   after3-ended : {a b : Next} → Moved 0 0 (m + 1) a b → (v : ℕ → ℤ) (da rt : Curve) → afterLine3 a v da rt s ≡ afterLine3 b v da rt t
-  after3-ended (both j h) v da rt = rw (rows-ended o 30 j 0 h) (rest-same v da rt s t (0 + j) (0 + j) (rowsAt 30 t (0 + j) 0) (intervals-ended o j h))
+  after3-ended (both j h) v da rt = rw (rows-ended o 16 19 refl 4 30 j 0 h) (rest-same v da rt s t (0 + j) (0 + j) (rowsAt 16 20 4 30 t (0 + j) 0) (each-ended o 16 19 refl intervalOf blank j h))
   after3-ended neither v da rt = refl
 
   after2-ended : {a b : Next} → Moved 0 0 (m + 1) a b → (v : ℕ → ℤ) (da : Curve) → afterLine2 a v da s ≡ afterLine2 b v da t
@@ -44,30 +46,8 @@ module _ {s t : List ℕ} {m : ℕ} (o : Ended s t 0 0 m) where
 
 -- ---- the empty line, and the end of the text
 module _ (front behind : List ℕ) where
-  abbrev lines : List ℕ
-  lines = front ++ (10 ∷ [])
-
-  long : length lines ≡ length front + 1
-  long = length-append front (10 ∷ [])
-
-  last-feed : byteAt (lines ++ (10 ∷ behind)) (0 + length front) ≡ 10
-  last-feed = rw zero-add (List·getD-append lines (10 ∷ behind) 256 (length front) (omega (arith, long)) ∙ getD-append-seam front 10 [] 256)
-
-  next-feed : byteAt (lines ++ (10 ∷ behind)) (0 + (length front + 1)) ≡ 10
-  next-feed = rw (zero-add, ← long) (getD-append-seam lines 10 behind 256)
-
-  text-ends : byteAt lines (0 + (length front + 1)) ≡ 256
-  text-ends = List·getD-eq-default lines 256 (omega (arith, long))
-
-  lines-ended : Ended (lines ++ (10 ∷ behind)) lines 0 0 (length front)
-  lines-ended = record {
-    along = record { same = λ i h. List·getD-append lines (10 ∷ behind) 256 (0 + i) (omega (arith, long)); stop = ap closing last-feed };
-    one = ap closing next-feed;
-    other = ap closing text-ends;
-  }
-
   pub closed-or-ended : blockOf (front ++ (10 ∷ 10 ∷ behind)) ≡ blockOf (front ++ (10 ∷ []))
-  closed-or-ended = ap blockOf (sym (append-snoc front 10 (10 ∷ behind))) ∙ block-ended lines-ended
+  closed-or-ended = ap blockOf (sym (append-snoc front 10 (10 ∷ behind))) ∙ block-ended (lines-ended front behind)
 
 pub empty-at-once : (behind : List ℕ) → blockOf (10 ∷ behind) ≡ broken 1
 unfolding blockOf blockAt lineAt afterFields fieldAt keyAt

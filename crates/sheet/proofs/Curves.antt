@@ -24,7 +24,8 @@ use Rattle.text.specs.declared.Next.{Next}
 use Rattle.text.specs.declared.Next.the-variants.{At, Wrong}
 use Rattle.sheet.specs.declared.block.Pairs.{Pairs}
 use Rattle.sheet.specs.declared.block.CurveRead.{CurveRead}
-use Rattle.sheet.specs.Line.{andThen, afterFields, valueIn, lineFeed}
+use Rattle.lines.specs.Line.{andThen, afterFields, valueIn, lineFeed}
+use Rattle.lines.proofs.Along.{never-at, went}
 use Rattle.sheet.specs.Block.{countOf, afterPairs, pairValue, endIn, priceIn, PairsRead, curveLine, curveOf, CurveReadAt}
 
 -- ---- the count
@@ -57,9 +58,6 @@ module _ (n : ℤ) (f : SFits w64 n) where
 
 -- ---- the pairs
 
-pub wrong-place : {X : Type 0} {i : ℕ} → Wrong ≡ At i → X
-wrong-place e = absurd (let z : _≡_ {A = ℕ} 0 1 = cc in omega arith)
-
 module _ (s : List ℕ) (at : ℕ) where
   pub pairs-none : afterPairs 0 s at ≡ At at
   unfolding afterPairs
@@ -91,8 +89,8 @@ module _ (s : List ℕ) (at : ℕ) where
     pairs-break n r h f w =
         record {
           next = w ∙ sym (pairs-wrong (j + 1) n (omega arith) (pairs-more ∙ f));
-          ends = λ k a. wrong-place (sym w ∙ a);
-          prices = λ k a. wrong-place (sym w ∙ a);
+          ends = λ k a. absurd (never-at (sym w ∙ a));
+          prices = λ k a. absurd (never-at (sym w ∙ a));
         }
 
 -- ---- the line
@@ -108,13 +106,9 @@ count-many n h =
     (λ e u. refl)
     h
 
-went : (x : Next) (f : ℕ → Next) (k : ℕ) → andThen x f ≡ At k → (i : ℕ) × (x ≡ At i)
-went (At i) f k e = (i, refl)
-went Wrong f k e = wrong-place e
-
 module _ (first : ℕ) (s : List ℕ) (at : ℕ) where
   curve-broken : (r : CurveRead) → curveLine first s at ≡ Wrong → r .next ≡ Wrong → CurveReadAt first s at r
-  curve-broken r e w = record { next = w ∙ sym e; curve = λ k a. wrong-place (sym w ∙ a) }
+  curve-broken r e w = record { next = w ∙ sym e; curve = λ k a. absurd (never-at (sym w ∙ a)) }
 
   pub curve-headless : (r : CurveRead) → afterFields first 2 s at ≡ Wrong → r .next ≡ Wrong → CurveReadAt first s at r
   unfolding curveLine

@@ -19,10 +19,13 @@ use Rattle.tariff.proofs.Tests.{and-right}
 use Rattle.text.specs.declared.Next.{Next}
 use Rattle.text.specs.declared.Next.the-variants.{At, Wrong}
 use Rattle.text.specs.Text.{byteAt}
-use Rattle.sheet.specs.Line.{andThen, valueIn, lineFeed, closes, filled}
-use Rattle.sheet.specs.Block.{afterPairs, pairValue, endIn, priceIn, pairsAt, curveLine, curveFrom, curveOf, intervalPlace, intervalFrom, intervalAt, Rows, counted, brokenRow, rowAfterLine, rowsAt, read, withRows, afterLine3, afterLine2, afterLine1, blockAt, blockOf}
-use Rattle.sheet.proofs.Rows.{interval-same, ahead-same}
-use Rattle.sheet.proofs.Agree.{SamePlace, goes, stops, either, goes-on, fields, value, feed, line, close}
+use Rattle.lines.specs.Line.{andThen, valueIn, lineFeed}
+use Rattle.lines.specs.Rows.{Rows}
+use Rattle.sheet.specs.Block.{afterPairs, pairValue, endIn, priceIn, pairsAt, curveLine, curveFrom, curveOf, intervalOf, intervalAt, read, withRows, afterLine3, afterLine2, afterLine1, blockAt, blockOf}
+use Rattle.lines.proofs.Fill.{filled-same}
+use Rattle.lines.proofs.Agree.{SamePlace, goes, stops, goes-on, fields, value, feed, line}
+use Rattle.lines.proofs.RowsAgree.{SameRows, rows, no-rows, row-agrees, rows-agree}
+use Rattle.sheet.proofs.Values.{interval-same, ahead-same}
 
 -- a curve line: none, or the same curve up to the same place
 data SameCurve (m : ℕ) (c d : Curve) : Next → Next → Type 0 where
@@ -32,14 +35,6 @@ data SameCurve (m : ℕ) (c d : Curve) : Next → Next → Type 0 where
 with-curve : {m : ℕ} {c d : Curve} {x y : Next} → c ≡ d → SamePlace m x y → SameCurve m c d x y
 with-curve e (goes i h) = curve i h e
 with-curve e stops = no-curve
-
--- the interval lines: the same count of at most m, or the same line that is not as printed
-data SameRows (m : ℕ) : Rows → Rows → Type 0 where
-  rows : (n : ℕ) → n ≤ m → SameRows m (counted n) (counted n)
-  no-rows : (i : ℕ) → SameRows m (brokenRow i) (brokenRow i)
-
-filled-same : {A : Type 0} (f g : ℕ → A) (d : A) (n total : ℕ) → ((k : ℕ) → k < n → f k ≡ g k) → filled n total f d ≡ filled n total g d
-filled-same f g d n total h = rw (up-same f g n h)
 
 module _ (s t : List ℕ) (N : ℕ) (agree : (i : ℕ) → i < N → byteAt s i ≡ byteAt t i) where
   -- ---- curve lines: a pair has at most 32 bytes, a line of 2 fields and 12 pairs at most 417
@@ -101,35 +96,8 @@ module _ (s t : List ℕ) (N : ℕ) (agree : (i : ℕ) → i < N → byteAt s i 
 
   -- ---- interval lines: one of 20 fields has at most 321 bytes
 
-  interval-place : (i at m : ℕ) → at + i * 321 ≤ m → m ≤ N → SamePlace m (intervalPlace s at i) (intervalPlace t at i)
-  unfolding intervalPlace
-  interval-place zero at m h u = goes at (omega arith)
-  interval-place (suc i) at m h u =
-      goes-on _ _ (interval-place i at (at + i * 321) (omega arith) (omega arith))
-      (λ j l. line s t N agree 16 20 j m (omega arith) u)
-
-  interval : (i at : ℕ) → at + i * 321 + 321 ≤ N → intervalAt s at i ≡ intervalAt t at i
-  unfolding intervalAt
-  interval i at h = go (interval-place i at (at + i * 321) (omega arith) (omega arith))
-    where
-      go : {x y : Next} → SamePlace (at + i * 321) x y → intervalFrom s x ≡ intervalFrom t y
-      go (goes j l) = interval-same (valueIn 16 s j) (valueIn 16 t j) (λ n u. value s t N agree 16 n j (omega arith))
-      go stops = refl
-
-  row-lines : (left at i m : ℕ) → at + left * 321 + 1 ≤ N → i + left ≤ m → SameRows m (rowsAt left s at i) (rowsAt left t at i)
-  unfolding rowsAt
-  row-lines zero at i m h u =
-      rw (close s t N agree at (omega arith)) (either (SameRows m) (closes t at) (rows i (omega arith)) (no-rows (i + 4)))
-  row-lines (suc left) at i m h u =
-      rw (close s t N agree at (omega arith))
-      (either (SameRows m) (closes t at)
-      (rows i (omega arith))
-      (go (λ j l. row-lines left j (i + 1) m (omega arith) (omega arith)) (line s t N agree 16 20 at (at + 321) (omega arith) (omega arith))))
-    where
-      go : {x y : Next} → ((j : ℕ) → j ≤ at + 321 → SameRows m (rowsAt left s j (i + 1)) (rowsAt left t j (i + 1))) → SamePlace (at + 321) x y
-          → SameRows m (rowAfterLine x i (λ next. rowsAt left s next (i + 1))) (rowAfterLine y i (λ next. rowsAt left t next (i + 1)))
-      go rest (goes j l) = rest j l
-      go rest stops = no-rows (i + 4)
+  interval : (i at : ℕ) → at + 321 * i + 321 ≤ N → intervalAt s at i ≡ intervalAt t at i
+  interval = row-agrees s t N agree 16 20 321 (omega arith) intervalOf blank interval-same
 
   -- ---- the block: 161 bytes of line 1, two curve lines, 30 interval lines, and the byte at which it closes
 
@@ -145,7 +113,7 @@ module _ (s t : List ℕ) (N : ℕ) (agree : (i : ℕ) → i < N → byteAt s i 
 
     line3 : {da da′ rt rt′ : Curve} {x y : Next} (m : ℕ) → m + 9631 ≤ N → da ≡ da′ → SameCurve m rt rt′ x y
         → afterLine3 x v da rt s ≡ afterLine3 y w da′ rt′ t
-    line3 m h p (curve at l q) = with-rows at (omega arith) p q (row-lines 30 at 0 30 (omega arith) (omega arith))
+    line3 m h p (curve at l q) = with-rows at (omega arith) p q (rows-agree s t N agree 16 20 321 (omega arith) 4 30 at 0 30 (omega arith) (omega arith))
     line3 m h p no-curve = refl
 
     line2 : {da da′ : Curve} {x y : Next} (m : ℕ) → m + 10048 ≤ N → SameCurve m da da′ x y → afterLine2 x v da s ≡ afterLine2 y w da′ t

@@ -4,7 +4,7 @@ use mathlib.Core.Bool.{true}
 use mathlib.Core.List.{List, [], _∷_, _++_, append-assoc}
 use Prim.Native.Nat.{ℕ, zero, suc, _+_, _≤_, _<_}
 use native.Mathlib.Decide.{decLt}
-use native.Mathlib.Nat.{add-zero, not-suc-le-zero, le-of-suc-le-suc}
+use native.Mathlib.Nat.{add-zero, not-suc-le-zero}
 use native.Mathlib.Omega.{arith}
 use lib.IntN.{ℤ, pos}
 use lib.Signed.{leZ}
@@ -12,7 +12,6 @@ use lib.ListN.{length, getD}
 use Rattle.exact.specs.Whole.{Within}
 use Rattle.exact.proofs.Parts.{true-le}
 use Rattle.exact.proofs.Range.{within-lit}
-use Rattle.exact.proofs.Sums.{up-same}
 use Rattle.tariff.specs.declared.Kw.{Kw}
 use Rattle.tariff.specs.declared.Price.{Price}
 use Rattle.tariff.specs.declared.Curve.{Curve}
@@ -21,31 +20,14 @@ use Rattle.tariff.specs.Sheet.{liesIn, endOf, priceOf}
 use Rattle.tariff.proofs.Tests.{and-both}
 use Rattle.tariff.proofs.Ranges.{CurveFits}
 use Rattle.text.specs.Number.{digitOf, digitAt}
-use Rattle.sheet.specs.Line.{afterFields, valueIn, filled}
+use Rattle.lines.specs.Line.{afterFields, valueIn}
 use Rattle.sheet.specs.Block.{afterPairs, endIn, priceIn, curveLine, curveOf}
-use Rattle.sheet.specs.Print.{number, fields, pairs, curve, CurvePlain}
+use Rattle.lines.specs.Print.{number, fields}
+use Rattle.sheet.specs.Print.{pairs, curve, CurvePlain}
 use Rattle.text.specs.declared.Next.the-variants.{At}
-use Rattle.sheet.proofs.Holds.{Holds, holds-split, after-both, holds-key, Says, number-said}
-use Rattle.sheet.proofs.Prints.{FieldsSaid, fields-said}
-
-pub filled-same {ℓ} : {A : Type ℓ} (f g : ℕ → A) (d : A) (n total : ℕ) → ((j : ℕ) → j < n → f j ≡ g j) → filled n total f d ≡ filled n total g d
-filled-same f g d n total h = rw (up-same f g n h)
-
--- texts that say numbers, from key k on
-abbrev pub AllSay : ℕ → List (List ℕ) → List ℤ → Type 0
-AllSay k [] [] = Unit {0}
-AllSay k [] (z ∷ zs) = ⊥
-AllSay k (x ∷ xs) [] = ⊥
-AllSay k (x ∷ xs) (z ∷ zs) = Says k x z × AllSay (k + 1) xs zs
-
-pub say-at : (k : ℕ) (xs : List (List ℕ)) (zs : List ℤ) → AllSay k xs zs → (j : ℕ) → j < length zs → Says (k + j) (getD xs j []) (getD zs j (pos 0))
-say-at k [] [] o j h = absurd (not-suc-le-zero h)
-say-at k [] (z ∷ zs) o j h = absurd o
-say-at k (x ∷ xs) [] o j h = absurd o
-say-at k (x ∷ xs) (z ∷ zs) o zero h = rw add-zero (o .0)
-say-at k (x ∷ xs) (z ∷ zs) o (suc j) h =
-    let e : k + 1 + j ≡ k + suc j = omega arith in
-    rw e at (say-at (k + 1) xs zs (o .1) j (le-of-suc-le-suc h))
+use Rattle.lines.proofs.Holds.{Holds, holds-split, after-both, holds-key, Says, number-said}
+use Rattle.lines.proofs.Prints.{say-at, FieldsSaid, fields-said}
+use Rattle.lines.proofs.Fill.{filled-same}
 
 -- two numbers, as every part of a curve line has
 two-say : (k : ℕ) (a b : ℤ) → Within 9999999 a → Within 9999999 b → (j : ℕ) → j < 2 → Says (k + j) (getD (number a ∷ number b ∷ []) j []) (getD (a ∷ b ∷ []) j (pos 0))

@@ -21,13 +21,14 @@ use Rattle.tariff.specs.declared.Hour.{Hour}
 use Rattle.tariff.specs.Sheet.{uolInRange, intervalInRange}
 use Rattle.tariff.specs.Hour.{interval}
 use Rattle.tariff.proofs.Ranges.{AheadFits, IntervalFits, interval-fits, uol-fits, capacity-within}
-use Rattle.sheet.specs.Line.{missing, valueIn, lineAt, closes}
-use Rattle.sheet.specs.Block.{aheadOf, uolOf, intervalOf, intervalPlace, intervalAt, counted, rowsAt}
-use Rattle.sheet.specs.Print.{number, limit, fields, line, ahead, amounts, intervals}
+use Rattle.lines.specs.Line.{missing, valueIn, lineAt, closes}
+use Rattle.lines.specs.Rows.{rowPlace, rowIn, counted, rowsAt}
+use Rattle.sheet.specs.Block.{aheadOf, uolOf, intervalOf, intervalAt}
+use Rattle.lines.specs.Print.{number, fields, line}
+use Rattle.sheet.specs.Print.{limit, ahead, amounts, intervals}
 use Rattle.text.specs.declared.Next.the-variants.{At}
-use Rattle.sheet.proofs.Holds.{Holds, holds-split, after-both, Says, number-said, missing-said}
-use Rattle.sheet.proofs.Prints.{line-said}
-use Rattle.sheet.proofs.PrintsCurve.{AllSay, say-at}
+use Rattle.lines.proofs.Holds.{Holds, holds-split, after-both, Says, number-said, missing-said}
+use Rattle.lines.proofs.Prints.{AllSay, say-at, line-said}
 
 -- ---- the numbers of a line, and the record that they make
 abbrev limitValue : Uol → ℤ
@@ -178,16 +179,16 @@ module _ (h : Hour) (fits : (i : ℕ) → i < h .n → intervalInRange (interval
       go before (no p) = let e : i ≡ n = omega arith in rw e (row-said n l (r .1))
 
   module _ (row : (i : ℕ) → i < h .n → Row i) where
-    place-said : (n : ℕ) → n ≤ h .n → intervalPlace s at n ≡ At (place n)
-    unfolding intervalPlace intervals
+    place-said : (n : ℕ) → n ≤ h .n → rowPlace 16 20 s at n ≡ At (place n)
+    unfolding rowPlace intervals
     place-said zero l = rw add-zero
     place-said (suc n) l = rw (place-said n (omega arith)) (row n l .next)
 
     pub each-said : (i : ℕ) → i < h .n → intervalAt s at i ≡ interval h i
-    unfolding intervalAt
+    unfolding rowIn
     each-said i l = rw (place-said i (omega arith)) (row i l .same)
 
-    pub rows-counted : (d left i : ℕ) → i + d ≡ h .n → d ≤ left → closes s (place (h .n)) ≡ true → rowsAt left s (place i) i ≡ counted (h .n)
+    pub rows-counted : (d left i : ℕ) → i + d ≡ h .n → d ≤ left → closes s (place (h .n)) ≡ true → rowsAt 16 20 4 left s (place i) i ≡ counted (h .n)
     unfolding rowsAt
     rows-counted zero zero i e l c = let q : i ≡ h .n = omega arith in rw (q, c)
     rows-counted zero (suc left) i e l c = let q : i ≡ h .n = omega arith in rw (q, c)

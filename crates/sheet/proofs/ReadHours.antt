@@ -1,35 +1,32 @@
 -- A record that is read has counts that its arrays hold, and blanks past them.
-use mathlib.Core.Path.{_≡_, refl, sym, subst, _∙_}
+use mathlib.Core.Path.{_≡_, refl, subst}
 use mathlib.Core.List.{List}
-use Prim.Native.Nat.{ℕ, zero, suc, _+_, _≤_, _<_}
-use native.Mathlib.Omega.{arith}
+use Prim.Native.Nat.{ℕ, _≤_}
 use borrow.Author.Tests.{le-leb}
 use lib.IntN.{ℤ, pos}
 use lib.Signed.{leZ}
-use lib.ListN.{getD, List·getD-append}
+use lib.ListN.{getD}
 use Rattle.exact.specs.Choice.{if_then_else_}
-use Rattle.exact.specs.Whole.{over, upTo}
+use Rattle.exact.specs.Whole.{over}
 use Rattle.exact.proofs.Parts.{by-test, arithℤ, apart}
-use Rattle.exact.proofs.Sums.{up-length, up-at}
 use Rattle.tariff.specs.declared.Hour.{Hour}
 use Rattle.tariff.specs.Units.{kw, price}
 use Rattle.tariff.specs.Sheet.{liesIn}
 use Rattle.tariff.specs.Reply.{clear}
 use Rattle.tariff.specs.Hour.{blank, form}
 use Rattle.tariff.proofs.Tests.{and-right}
-use Rattle.sheet.specs.Line.{andThen, afterFields, valueIn, lineFeed, lineAt, closes, filled}
-use Rattle.sheet.specs.Block.{aheadOf, afterPairs, pairsAt, curveLine, curveFrom, curveOf, intervalAt, Rows, counted, brokenRow, rowAfterLine, rowsAt, read, withRows, afterLine1, afterLine2, afterLine3, blockAt, blockOf}
+use Rattle.lines.specs.Line.{andThen, afterFields, valueIn, lineFeed, lineAt, filled}
+use Rattle.lines.specs.Rows.{Rows, counted, brokenRow, rowsAt}
+use Rattle.sheet.specs.Block.{aheadOf, afterPairs, pairsAt, curveLine, curveFrom, curveOf, intervalAt, read, withRows, afterLine1, afterLine2, afterLine3, blockAt, blockOf}
 use Rattle.sheet.specs.Print.{CurvePlain, Plain}
 use Rattle.text.specs.declared.Next.{Next}
 use Rattle.text.specs.declared.Next.the-variants.{At, Wrong}
-use Rattle.sheet.proofs.Along.{never-at}
+use Rattle.lines.proofs.Along.{never-at}
+use Rattle.lines.proofs.Rows.{rows-few}
 use Rattle.sheet.proofs.Apart.{never-read}
-use Rattle.sheet.proofs.PrintsCurve.{filled-same}
+use Rattle.lines.proofs.Fill.{filled-same, filled-at}
 
 -- ---- arrays
-filled-at : {A : Type 0} (f : ℕ → A) (d : A) (n total j : ℕ) → j < n → f j ≡ getD (filled n total f d) j d
-filled-at f d n total j h = sym (List·getD-append (upTo f n) _ d j (let e = up-length f n in omega arith) ∙ up-at f d n j h)
-
 filled-plain : {A : Type 0} (f : ℕ → A) (d : A) (n total : ℕ) → filled n total f d ≡ filled n total (λ j. getD (filled n total f d) j d) d
 filled-plain f d n total = filled-same f _ d n total (filled-at f d n total)
 
@@ -52,24 +49,6 @@ curve-few first s at i = go (valueIn first s at 0) (valueIn first s at 1) (after
         (λ t e. absurd (never-at e))
     go start n Wrong = λ e. absurd (never-at e)
 
--- ---- interval lines
-rows-few : (left : ℕ) (s : List ℕ) (at i n : ℕ) → rowsAt left s at i ≡ counted n → n ≤ i + left
-unfolding rowsAt
-rows-few zero s at i n = by-test (closes s at) (λ b. (if b then counted i else brokenRow (i + 4)) ≡ counted n → n ≤ i + 0)
-    (λ t e. let q : i ≡ n = cc in omega arith)
-    (λ t e. let z : _≡_ {A = ℕ} 0 1 = cc in absurd (omega arith))
-rows-few (suc left) s at i n = go (lineAt 16 20 s at) (λ next. rows-few left s next (i + 1) n)
-  where
-    after : (a : Next) → ((next : ℕ) → rowsAt left s next (i + 1) ≡ counted n → n ≤ i + 1 + left) → rowAfterLine a i (λ next. rowsAt left s next (i + 1)) ≡ counted n → n ≤ i + suc left
-    after (At next) f e = let q = f next e in omega arith
-    after Wrong f e = let z : _≡_ {A = ℕ} 0 1 = cc in absurd (omega arith)
-
-    go : (a : Next) → ((next : ℕ) → rowsAt left s next (i + 1) ≡ counted n → n ≤ i + 1 + left)
-        → (if closes s at then counted i else rowAfterLine a i (λ next. rowsAt left s next (i + 1))) ≡ counted n → n ≤ i + suc left
-    go a f = by-test (closes s at) (λ b. (if b then counted i else rowAfterLine a i (λ next. rowsAt left s next (i + 1))) ≡ counted n → n ≤ i + suc left)
-        (λ t e. let q : i ≡ n = cc in omega arith)
-        (λ t e. after a f e)
-
 -- ---- the block
 pub record Sound (h : Hour) : Type 0 where
   pub form : form h ≡ clear
@@ -85,12 +64,12 @@ module _ (s : List ℕ) (h : Hour) where
       plain = record { da = curve-plain 10 s a; rt = curve-plain 12 s b; iv = filled-plain (intervalAt s k) blank n 30 };
     }
 
-    rows-sound : (k : ℕ) → curveOf 10 s a .n ≤ 12 → curveOf 12 s b .n ≤ 12 → (r : Rows) → rowsAt 30 s k 0 ≡ r → withRows v (curveOf 10 s a) (curveOf 12 s b) s k r ≡ read h → Sound h
+    rows-sound : (k : ℕ) → curveOf 10 s a .n ≤ 12 → curveOf 12 s b .n ≤ 12 → (r : Rows) → rowsAt 16 20 4 30 s k 0 ≡ r → withRows v (curveOf 10 s a) (curveOf 12 s b) s k r ≡ read h → Sound h
     rows-sound k d r (brokenRow line) e q = absurd (never-read q)
-    rows-sound k d r (counted n) e q = subst Sound (cc) (hour-sound n k d r (rows-few 30 s k 0 n e))
+    rows-sound k d r (counted n) e q = subst Sound (cc) (hour-sound n k d r (rows-few 16 20 4 30 s k 0 n e))
 
     line3-sound : (x : Next) → curveLine 12 s b ≡ x → curveOf 10 s a .n ≤ 12 → afterLine3 x v (curveOf 10 s a) (curveOf 12 s b) s ≡ read h → Sound h
-    line3-sound (At k) e d q = rows-sound k d (curve-few 12 s b k e) (rowsAt 30 s k 0) refl q
+    line3-sound (At k) e d q = rows-sound k d (curve-few 12 s b k e) (rowsAt 16 20 4 30 s k 0) refl q
     line3-sound Wrong e d q = absurd (never-read q)
 
   line2-sound : (v : ℕ → ℤ) (a : ℕ) (x : Next) → curveLine 10 s a ≡ x → afterLine2 x v (curveOf 10 s a) s ≡ read h → Sound h

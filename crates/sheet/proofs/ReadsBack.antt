@@ -17,12 +17,15 @@ use Rattle.tariff.specs.Reply.{clear}
 use Rattle.tariff.specs.Hour.{blank, form, range}
 use Rattle.tariff.proofs.Tests.{and-left, and-right}
 use Rattle.tariff.proofs.Ranges.{ahead-fits, curve-fits, form-says, range-says}
-use Rattle.sheet.specs.Line.{closes, valueIn}
-use Rattle.sheet.specs.Block.{curveLine, curveOf, counted, rowsAt, withRows, afterLine2, blockAt, blockOf, read}
-use Rattle.sheet.specs.Print.{line, ahead, curve, intervals, textOf, Plain}
-use Rattle.sheet.proofs.Holds.{Holds, holds-split, holds-end}
-use Rattle.sheet.proofs.Prints.{LineSaid, line-said}
-use Rattle.sheet.proofs.PrintsCurve.{filled-same, say-at, curve-line-said, curve-said}
+use Rattle.lines.specs.Line.{closes, valueIn}
+use Rattle.lines.specs.Rows.{counted, rowsAt}
+use Rattle.sheet.specs.Block.{curveLine, curveOf, withRows, afterLine2, blockAt, blockOf, read}
+use Rattle.lines.specs.Print.{line}
+use Rattle.sheet.specs.Print.{ahead, curve, intervals, textOf, Plain}
+use Rattle.lines.proofs.Holds.{Holds, holds-split, holds-end}
+use Rattle.lines.proofs.Fill.{filled-same}
+use Rattle.lines.proofs.Prints.{say-at, LineSaid, line-said}
+use Rattle.sheet.proofs.PrintsCurve.{curve-line-said, curve-said}
 use Rattle.sheet.proofs.ReadHours.{read-sound}
 use Rattle.sheet.proofs.PrintsHour.{aheadValues, ahead-say, ahead-back, Row, rows-said, each-said, rows-counted}
 
@@ -61,7 +64,7 @@ module _ (h : Hour) (f : form h ≡ clear) (r : range h ≡ clear) (p : Plain h)
       row : (i : ℕ) → i < h .n → Row h (range-says h r .4) s place4 i
       row = rows-said h (range-says h r .4) s place4 (h .n) (omega arith) (o .more)
 
-      rows-read : rowsAt 30 s place4 0 ≡ counted (h .n)
+      rows-read : rowsAt 16 20 4 30 s place4 0 ≡ counted (h .n)
       unfolding intervals
       rows-read = rw add-zero at (rows-counted h (range-says h r .4) s place4 row (h .n) 30 0 (zero-add _) (form-says h f .2) (o .end))
 

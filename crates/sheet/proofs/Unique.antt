@@ -7,7 +7,6 @@ use Rattle.tariff.proofs.Demands.{one-reply}
 use Rattle.sheet.specs.declared.Said.{Said}
 use Rattle.sheet.proofs.settle_block.Reads as settle-block
 use Rattle.sheet.proofs.said_by.Reads as said-by
-use Rattle.sheet.proofs.is_whole.Reads as is-whole
 
 pub one-settle-block : OneReply settle-block.Post
 one-settle-block κ a r s u v p q = one-reply r s _ (p .0) (q .0)
@@ -21,6 +20,3 @@ said hour n = record { hour = hour; n = n }
 
 pub one-said-by : OneReply said-by.Post
 one-said-by κ a r s u v p q = ap₂ said (one (r .hour) (s .hour) (p .0) (q .0)) (one (r .n) (s .n) (p .1) (q .1))
-
-pub one-is-whole : OneReply is-whole.Post
-one-is-whole κ a r s u v p q = one r s p q

@@ -4,7 +4,7 @@ use mathlib.Core.List.{List, _++_}
 use Prim.Native.Nat.{ℕ, _+_}
 use lib.ListN.{length}
 use Rattle.text.specs.declared.Next.the-variants.{At}
-use Rattle.sheet.specs.Line.{andThen, lineAt}
+use Rattle.lines.specs.Line.{andThen, lineAt}
 use Rattle.sheet.specs.Block.{curveLine}
 
 -- line 1 of a text ends where `first` does, and its two curve lines where `curves` does

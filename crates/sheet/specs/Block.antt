@@ -1,13 +1,12 @@
 -- An hour block: line 1, the two curve lines, and up to 30 interval lines. FORM is at the first line that is not as printed.
 use mathlib.Core.Path.{_≡_}
-use mathlib.Core.Bool.{Bool, true, false}
+use mathlib.Core.Bool.{Bool}
 use mathlib.Core.List.{List}
-use Prim.Native.Nat.{ℕ, zero, suc, _+_}
+use Prim.Native.Nat.{ℕ, zero, suc}
 use lib.Dec.{eqb}
 use lib.IntN.{ℤ, pos}
 use Rattle.exact.specs.Choice.{if_then_else_}
 use Rattle.exact.specs.Whole.{over, eqZ}
-use Rattle.tariff.specs.declared.Kw.{Kw}
 use Rattle.tariff.specs.declared.Curve.{Curve}
 use Rattle.tariff.specs.declared.Uol.{Uol}
 use Rattle.tariff.specs.declared.Uol.the-variants as uol
@@ -25,7 +24,8 @@ use Rattle.sheet.specs.declared.block.Pairs.{Pairs}
 use Rattle.sheet.specs.declared.block.CurveRead.{CurveRead}
 use Rattle.sheet.specs.declared.block.RowsRead.{RowsRead}
 use Rattle.sheet.specs.declared.block.BlockRead.{BlockRead}
-use Rattle.sheet.specs.Line.{missing, andThen, afterFields, valueIn, lineFeed, lineAt, closes, filled}
+use Rattle.lines.specs.Line.{missing, andThen, afterFields, valueIn, lineFeed, lineAt, filled}
+use Rattle.lines.specs.Rows.{rowIn, Rows, counted, brokenRow, rowsAt, RowsFound}
 
 -- ---- line 1
 
@@ -63,7 +63,7 @@ priceIn s at j = pairValue 1 s (afterPairs j s at)
 abbrev pub pairsAt : ℤ → List ℕ → ℕ → Next
 pairsAt n s at = if liesIn (pos 0) (pos 12) n then andThen (afterPairs (over n) s at) (lineFeed s) else Wrong
 
--- the count that the code takes: 13 stands for any text that is not 0 to 12
+-- the count that the code takes: 13 stands for any number that is not 0 to 12
 abbrev pub countOf : ℤ → ℕ
 countOf n = if liesIn (pos 0) (pos 12) n then over n else 13
 
@@ -124,43 +124,15 @@ intervalOf v =
       bmv = movePrice (v 19);
     }
 
--- the place of interval line i, where the first stands at `at`
-unfoldable pub intervalPlace : List ℕ → ℕ → ℕ → Next
-intervalPlace s at zero = At at
-intervalPlace s at (suc i) = andThen (intervalPlace s at i) (lineAt 16 20 s)
-
-abbrev pub intervalFrom : List ℕ → Next → Interval
-intervalFrom s (At at) = intervalOf (valueIn 16 s at)
-intervalFrom s Wrong = blank
-
-unfoldable pub intervalAt : List ℕ → ℕ → ℕ → Interval
-intervalAt s at i = intervalFrom s (intervalPlace s at i)
+-- interval i, where the first interval line stands at `at`
+abbrev pub intervalAt : List ℕ → (at i : ℕ) → Interval
+intervalAt = rowIn 16 20 intervalOf blank
 
 -- ---- the block
 
-pub data Rows : Type 0 where
-  counted : ℕ → Rows
-  brokenRow : ℕ → Rows
-
-abbrev pub rowAfterLine : Next → ℕ → (ℕ → Rows) → Rows
-rowAfterLine (At next) i rest = rest next
-rowAfterLine Wrong i rest = brokenRow (i + 4)
-
--- up to `left` interval lines more after i of them: how many there are, or the first line that is not as printed. An
--- interval line too many is line 34, whatever it holds
-unfoldable pub rowsAt : (left : ℕ) → List ℕ → (at i : ℕ) → Rows
-rowsAt zero s at i = if closes s at then counted i else brokenRow (i + 4)
-rowsAt (suc left) s at i =
-    let rest = rowAfterLine (lineAt 16 20 s at) i (λ next. rowsAt left s next (i + 1)) in
-    if closes s at then counted i else rest
-
--- what the code has read of the interval lines
-abbrev pub rowsTold : RowsRead → Rows
-rowsTold r = if eqb (r .broken) 0 then counted (r .n) else brokenRow (r .broken)
-
-pub record RowsReadAt (s : List ℕ) (at : ℕ) (r : RowsRead) : Type 0 where
-  pub told : rowsTold r ≡ rowsAt 30 s at 0
-  pub rows : r .broken ≡ 0 → r .iv ≡ filled (r .n) 30 (intervalAt s at) blank
+-- what the code has read of the interval lines: up to 30 from line 4 on, so that one too many is line 34
+abbrev pub RowsReadAt : List ℕ → (at : ℕ) → RowsRead → Type 0
+RowsReadAt s at r = RowsFound 16 20 4 30 intervalOf blank s at (r .broken) (r .n) (r .iv)
 
 pub data Block : Type 0 where
   broken : ℕ → Block
@@ -173,7 +145,7 @@ withRows v da rt s at (counted n) =
 
 abbrev pub afterLine3 : Next → (ℕ → ℤ) → Curve → Curve → List ℕ → Block
 afterLine3 Wrong v da rt s = broken 3
-afterLine3 (At at) v da rt s = withRows v da rt s at (rowsAt 30 s at 0)
+afterLine3 (At at) v da rt s = withRows v da rt s at (rowsAt 16 20 4 30 s at 0)
 
 abbrev pub afterLine2 : Next → (ℕ → ℤ) → Curve → List ℕ → Block
 afterLine2 Wrong v da s = broken 2

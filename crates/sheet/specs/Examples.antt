@@ -12,14 +12,16 @@ use Rattle.tariff.specs.Units.{kw, price, movePrice, seconds}
 use Rattle.tariff.specs.Hour.{blank}
 use Rattle.text.specs.Text.{bytes, keyAt}
 use Rattle.text.specs.Number.{digitAt, moreDigits, naturalAt, numberAt}
-use Rattle.sheet.specs.Line.{valueAt, fieldAt, afterFields, valueIn, lineAt, closes}
-use Rattle.sheet.specs.Block.{Block, afterPairs, endIn, priceIn, curveLine, curveOf, intervalPlace, intervalAt, counted, brokenRow, rowsAt, blockAt, blockOf, broken, read}
+use Rattle.lines.specs.Line.{valueAt, fieldAt, afterFields, valueIn, lineAt, closes}
+use Rattle.lines.specs.Rows.{rowPlace, rowIn, counted, brokenRow, rowsAt}
+use Rattle.sheet.specs.Block.{Block, afterPairs, endIn, priceIn, curveLine, curveOf, intervalAt, blockAt, blockOf, broken, read}
 use Rattle.sheet.specs.Apart.{CurvesApart}
-use Rattle.sheet.specs.Print.{natural, fields, line, pairs, curve, intervals, textOf}
+use Rattle.lines.specs.Print.{natural, fields, line}
+use Rattle.sheet.specs.Print.{pairs, curve, intervals, textOf}
 
 -- what a proof by computation opens
 reading : List ℕ → Block
-unfolding blockOf blockAt rowsAt intervalAt intervalPlace curveOf curveLine priceIn endIn afterPairs closes lineAt valueIn afterFields fieldAt valueAt keyAt numberAt naturalAt moreDigits digitAt upTo
+unfolding blockOf blockAt rowsAt rowIn rowPlace curveOf curveLine priceIn endIn afterPairs closes lineAt valueIn afterFields fieldAt valueAt keyAt numberAt naturalAt moreDigits digitAt upTo
 reading s = blockOf s
 
 abbrev line1 : List ℕ
@@ -176,11 +178,11 @@ unfolding reading
 minus-alone = refl
 
 -- after 29 interval lines one more is the last: the next is line 34, whatever it holds
-thirty-lines : rowsAt 1 short 0 29 ≡ counted 30
+thirty-lines : rowsAt 16 20 4 1 short 0 29 ≡ counted 30
 unfolding reading
 thirty-lines = refl
 
-line-too-many : rowsAt 1 (short ++ bytes "?") 0 29 ≡ brokenRow 34
+line-too-many : rowsAt 16 20 4 1 (short ++ bytes "?") 0 29 ≡ brokenRow 34
 unfolding reading
 line-too-many = refl
 

@@ -1,6 +1,4 @@
 -- The sheet as bytes: what its lines say, as document 01 prints them.
-pub mod Keys
-pub mod Line
 pub mod Block
 pub mod Apart
 pub mod Closed

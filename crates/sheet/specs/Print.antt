@@ -1,11 +1,8 @@
--- The text of an hour's record, key by key from the one table, its numbers in decimal.
+-- The text of an hour's record, line by line.
 use mathlib.Core.Path.{_≡_}
 use mathlib.Core.List.{List, [], _∷_, _++_}
-use Prim.Native.Nat.{ℕ, zero, suc, _+_, _/_, _%_}
-use lib.Dec.{ltb}
-use lib.IntN.{ℤ, pos, negsuc}
-use lib.ListN.{getD}
-use Rattle.exact.specs.Choice.{if_then_else_}
+use Prim.Native.Nat.{ℕ, zero, suc}
+use lib.IntN.{pos}
 use Rattle.tariff.specs.declared.Curve.{Curve}
 use Rattle.tariff.specs.declared.Uol.{Uol}
 use Rattle.tariff.specs.declared.Uol.the-variants.{Missing, At}
@@ -15,31 +12,12 @@ use Rattle.tariff.specs.Sheet.{endOf, priceOf}
 use Rattle.tariff.specs.Units.{kw, price}
 use Rattle.tariff.specs.Hour.{blank, interval}
 use Rattle.text.specs.Text.{bytes}
-use Rattle.sheet.specs.Keys.{keyOf}
-use Rattle.sheet.specs.Line.{filled}
-
--- a number of up to `left` digits
-unfoldable pub natural : (left : ℕ) → ℕ → List ℕ
-natural zero n = []
-natural (suc left) n =
-    let front = natural left (n / 10) in
-    if ltb n 10 then (48 + n) ∷ [] else front ++ ((48 + n % 10) ∷ [])
-
-abbrev pub number : ℤ → List ℕ
-number (pos n) = natural 7 n
-number (negsuc n) = 45 ∷ natural 7 (suc n)
+use Rattle.lines.specs.Line.{filled}
+use Rattle.lines.specs.Print.{number, fields, line}
 
 abbrev pub limit : Uol → List ℕ
 limit Missing = bytes "-"
 limit (At k) = number (k .0)
-
--- n fields from key `first` on, whose numbers are the texts of a list
-unfoldable pub fields : (first n : ℕ) → List (List ℕ) → List ℕ
-fields first zero texts = []
-fields first (suc n) texts = fields first n texts ++ (keyOf (first + n) ++ getD texts n [])
-
-unfoldable pub line : (first n : ℕ) → List (List ℕ) → List ℕ
-line first n texts = fields first n texts ++ (10 ∷ [])
 
 abbrev pub ahead : Hour → List (List ℕ)
 ahead h =

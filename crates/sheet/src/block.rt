@@ -5,7 +5,6 @@ ghost use lib.IntN.{ℤ, pos};
 ghost use lib.ListN.{getD};
 ghost use Rattle.tariff.specs.Hour.{blank};
 ghost use Rattle.sheet.specs.Block.{aheadOf, uolOf, intervalOf, countOf, PairsRead, CurveReadAt, RowsReadAt, blockAt, blockTold};
-use crate::line;
 use tariff::Curve;
 use tariff::DayAhead;
 use tariff::Hour;
@@ -131,7 +130,7 @@ pub fn pairs_at(s: &[u8], at: usize, n: usize) -> Pairs
     let mut i = at;
     let mut j: usize = 0;
     while j < n {
-        let pair = line::fields_at(s, i, 14, 2);
+        let pair = lines::fields_at(s, i, 14, 2);
         let next = pair.next;
         let Next::At(after) = next else {
             return Pairs {
@@ -168,7 +167,7 @@ pub fn curve_at(s: &[u8], at: usize, first: usize) -> CurveRead
     requires { ⌜ first + 2 ≤ 58 ⌝ }
     ensures { λ r. ⌜ CurveReadAt first (now (s .entry)) at r ⌝ }
 {
-    let head = line::fields_at(s, at, first, 2);
+    let head = lines::fields_at(s, at, first, 2);
     let v = head.values;
     let start = Kw(v[0]);
     let n = count_of(v[1]);
@@ -184,7 +183,7 @@ pub fn curve_at(s: &[u8], at: usize, first: usize) -> CurveRead
     let to = pairs.to;
     let prices = pairs.at;
     CurveRead {
-        next: line::line_end(s, after),
+        next: lines::line_end(s, after),
         curve: Curve {
             start,
             n,
@@ -216,13 +215,13 @@ pub fn rows_at(s: &[u8], at: usize) -> RowsRead
     let mut iv = [blank_interval(); 30];
     let mut i = at;
     let mut n: usize = 0;
-    while !line::is_closed(s, i) {
+    while !lines::is_closed(s, i) {
         if 30 <= n {
             return RowsRead { broken: 34, n, iv };
         }
-        let fields = line::fields_at(s, i, 16, 20);
+        let fields = lines::fields_at(s, i, 16, 20);
         let end = fields.next;
-        let Next::At(next) = line::line_end(s, end) else {
+        let Next::At(next) = lines::line_end(s, end) else {
             return RowsRead {
                 broken: n + 4,
                 n,
@@ -275,10 +274,10 @@ pub fn broken_block(broken: usize) -> BlockRead
 pub fn read_block(s: &[u8], at: usize) -> BlockRead
     ensures { λ r. ⌜ blockTold r ≡ blockAt (now (s .entry)) at ⌝ }
 {
-    let first = line::fields_at(s, at, 0, 10);
+    let first = lines::fields_at(s, at, 0, 10);
     let v = first.values;
     let fields = first.next;
-    let Next::At(p1) = line::line_end(s, fields) else {
+    let Next::At(p1) = lines::line_end(s, fields) else {
         return broken_block(1);
     };
     let da = curve_at(s, p1, 10);

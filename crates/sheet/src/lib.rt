@@ -2,14 +2,12 @@
 ghost use mathlib.Core.Path.{_≡_};
 ghost use lib.ListN.{length};
 ghost use Rattle.tariff.specs.Reply.{told};
-ghost use Rattle.sheet.specs.Line.{endsEmpty};
 ghost use Rattle.sheet.specs.Block.{blockOf, replyTo, rowTo, hourSaid, countSaid};
 use tariff::Answer;
 use tariff::Check;
 use tariff::Expected;
 
 mod block;
-mod line;
 mod reader;
 
 // Settles the hour block that begins at the first byte, read up to its first empty line or its end. Any bytes are judged.
@@ -44,25 +42,5 @@ pub fn said_by(block: &[u8]) -> Said
     Said {
         hour: hour.hour,
         n: hour.n,
-    }
-}
-
-// Whether the first n bytes end with an empty line, so that the block in front is whole.
-pub fn is_whole(text: &[u8], n: usize) -> bool
-    ensures { λ r. ⌜ r ≡ endsEmpty (now (text .entry)) n ⌝ }
-{
-    if n == 0 {
-        return false;
-    }
-    if text::byte_at(text, n - 1) != 10 {
-        return false;
-    }
-    if n == 1 {
-        return true;
-    }
-    if text::byte_at(text, n - 2) == 10 {
-        true
-    } else {
-        false
     }
 }

@@ -1,4 +1,4 @@
--- A text has an optional minus and one to seven digits, without leading zeros and without -0.
+-- A number has an optional minus and one to seven digits, without leading zeros and without -0.
 use mathlib.Core.Bool.{Bool, true, false}
 use mathlib.Core.List.{List}
 use Prim.Native.Nat.{ℕ, zero, suc, _+_, _-_, _*_, _<_}

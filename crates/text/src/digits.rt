@@ -1,28 +1,14 @@
 // Digits at a place of a text, and their sign.
 ghost use mathlib.Core.Path.{_≡_};
-ghost use Prim.Native.Nat.{_<_, _≤_};
+ghost use Prim.Native.Nat.{_<_};
 ghost use lib.IntN.{pos, negℤ};
-ghost use Rattle.text.specs.Number.{digitAt, moreDigits, naturalAt, Small};
-use crate::byte_at;
+ghost use Rattle.text.specs.Number.{moreDigits, naturalAt, Small};
+use crate::digit_at;
 
 // Digits and the place after them, or none.
 pub enum Digits {
     Natural(u64, usize),
     NoDigits,
-}
-
-// The digit at a place, or 10 where there is none.
-pub fn digit_at(s: &[u8], at: usize) -> u64
-    ensures { λ r. ⌜ (r ≡ digitAt (now (s .entry)) at) × (r ≤ 10) ⌝ }
-{
-    let b = byte_at(s, at);
-    if b < 48 {
-        return 10;
-    }
-    if 57 < b {
-        return 10;
-    }
-    b - 48
 }
 
 // Up to six digits more, after a first one.

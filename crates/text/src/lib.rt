@@ -1,12 +1,13 @@
 // Numbers and keys at a place of a text. Every call takes any text and any place.
 ghost use mathlib.Core.Path.{_≡_};
+ghost use Prim.Native.Nat.{_≤_};
 ghost use Rattle.text.specs.Text.{byteAt, keyAt};
-ghost use Rattle.text.specs.Number.{numberAt};
+ghost use Rattle.text.specs.Number.{digitAt, numberAt};
 use digits::Digits;
 
 mod digits;
 
-// A text and the place after it, or none.
+// A number and the place after it, or none.
 pub enum Number {
     Got(i64, usize),
     Bad,
@@ -23,6 +24,20 @@ pub fn byte_at(s: &[u8], at: usize) -> u64
     ensures { λ r. ⌜ r ≡ byteAt (now (s .entry)) at ⌝ }
 {
     if at < s.len() { s[at] as u64 } else { 256 }
+}
+
+// The digit at a place, or 10 where there is none.
+pub fn digit_at(s: &[u8], at: usize) -> u64
+    ensures { λ r. ⌜ (r ≡ digitAt (now (s .entry)) at) × (r ≤ 10) ⌝ }
+{
+    let b = byte_at(s, at);
+    if b < 48 {
+        return 10;
+    }
+    if 57 < b {
+        return 10;
+    }
+    b - 48
 }
 
 // The one parser of numbers.

@@ -1,6 +1,6 @@
 -- `said_by` meets its contract: zeros where a line is not as printed, and what the record holds otherwise.
 use mathlib.Core.Path.{refl}
-use Rattle.sheet.proofs.Fill.{held-is}
+use Rattle.lines.proofs.Fill.{held-is}
 use Rattle.sheet.proofs.Blocks.{block-broken, block-is}
 use borrow.Author.Needs.{needs}
 use Rattle.sheet.proofs.said_by.Statement.{statement}

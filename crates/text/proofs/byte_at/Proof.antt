@@ -1,4 +1,4 @@
--- `sheet::text::byte_at` reads the byte at a place, or 256 past the end.
+-- `byte_at` reads the byte at a place, or 256 past the end.
 use mathlib.Core.Path.{sym}
 use native.Mathlib.Omega.{arith}
 use borrow.Author.Needs.{needs}

@@ -1,4 +1,4 @@
--- `sheet::text::key_at` compares a key at a place. The loop's invariant: the whole key stands there if the rest of it stands here.
+-- `key_at` compares a key at a place. The loop's invariant: the whole key stands there if the rest of it stands here.
 use mathlib.Core.Path.{_≡_, refl, sym, _∙_}
 use Prim.Native.Nat.{_≤_, _-_}
 use native.Mathlib.Omega.{arith}

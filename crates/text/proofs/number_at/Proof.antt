@@ -1,4 +1,4 @@
--- `sheet::text::number_at` reads a number: its minus, its digits, and no -0.
+-- `number_at` reads a number: its minus, its digits, and no -0.
 use mathlib.Core.Path.{_∙_, sym, ap, subst}
 use native.Mathlib.Omega.{arith}
 use borrow.Author.Needs.{needs}

@@ -1,4 +1,4 @@
--- `block::count_of` meets its contract: below 0 and above 12 the answer is 13, and else the text itself.
+-- `block::count_of` meets its contract: below 0 and above 12 the answer is 13, and else the number itself.
 use Rattle.sheet.proofs.Curves.{count-below, count-above, count-fits, count-within}
 use Rattle.sheet.proofs.block.count_of.Statement.{statement}
 use Rattle.sheet.proofs.block.count_of.Tie as tie

@@ -6,9 +6,10 @@ use lib.IntN.{pos}
 use lib.ListN.{getD}
 use Rattle.exact.proofs.Bits.{held}
 use Rattle.text.specs.declared.Next.{Next}
-use Rattle.sheet.specs.Line.{afterFields, valueIn}
+use Rattle.lines.specs.Line.{afterFields, valueIn}
 use Rattle.sheet.specs.Block.{countOf}
-use Rattle.sheet.proofs.Fill.{held-is}
+use Rattle.lines.proofs.Fill.{held-is}
+use Rattle.lines.proofs.Lines.{FieldsRead, is-line, fields-read}
 use Rattle.sheet.proofs.Curves.{curve-headless, curve-many, curve-read}
 use Rattle.sheet.proofs.block.curve_at.Statement.{statement}
 use Rattle.sheet.proofs.block.curve_at.Tie as tie
@@ -18,16 +19,19 @@ module _ (c : tie.After-count-of) where
   abbrev begun : tie.Start
   begun = c .before .before .before .before .before .before
 
+  head : FieldsRead (begun .args .first) 2 (begun .args .s .now) (begun .args .at) (c .before .before .before .before .fields-at .result)
+  head = fields-read (begun .args .first) 2 _ _ _ (is-line (begun .args .first) 2 (begun .pre) (omega arith)) (c .before .before .before .before .fields-at .ensures)
+
   head-is : {x : Next} → c .before .before .before .before .fields-at .result .next ≡ x → afterFields (begun .args .first) 2 (begun .args .s .now) (begun .args .at) ≡ x
-  head-is e = sym (c .before .before .before .before .fields-at .ensures .next) ∙ e
+  head-is e = sym (head .next) ∙ e
 
   start-is : held (getD (c .before .before .before .before .fields-at .result .values) 0 (pos 0)) ≡ valueIn (begun .args .first) (begun .args .s .now) (begun .args .at) 0
-  start-is = held-is _ _ (c .before .before .count-of-arg .given) (c .before .before .before .before .fields-at .ensures .values 0 (omega arith))
+  start-is = held-is _ _ (c .before .before .count-of-arg .given) (head .values 0 (omega arith))
 
   count-is : c .count-of .result ≡ countOf (valueIn (begun .args .first) (begun .args .s .now) (begun .args .at) 1)
   count-is =
       c .count-of .ensures
-      ∙ ap countOf (held-is _ _ (c .before .count-of-arg2 .given) (c .before .before .before .before .fields-at .ensures .values 1 (omega arith)))
+      ∙ ap countOf (held-is _ _ (c .before .count-of-arg2 .given) (head .values 1 (omega arith)))
 
 fields-at-requires : tie.Need-fields-at-requires
 fields-at-requires c κs = search needs

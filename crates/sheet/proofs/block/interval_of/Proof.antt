@@ -1,9 +1,9 @@
--- `block::interval_of` meets its contract: each value of the array is the text that its bits say.
+-- `block::interval_of` meets its contract: each value of the array is the number that its bits say.
 use mathlib.Core.Path.{ap}
 use borrow.Author.Needs.{needs}
 use lib.Dec.{lit<}
 use Rattle.sheet.specs.Block.{intervalOf}
-use Rattle.sheet.proofs.Fill.{held-values}
+use Rattle.lines.proofs.Fill.{held-values}
 use Rattle.sheet.proofs.block.interval_of.Statement.{statement}
 use Rattle.sheet.proofs.block.interval_of.Tie as tie
 

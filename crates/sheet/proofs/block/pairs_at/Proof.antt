@@ -7,9 +7,10 @@ use lib.IntN.{pos}
 use Rattle.exact.specs.Whole.{upTo}
 use Rattle.tariff.specs.Units.{kw, price}
 use Rattle.text.specs.declared.Next.the-variants.{At}
-use Rattle.sheet.specs.Line.{filled}
+use Rattle.lines.specs.Line.{filled}
 use Rattle.sheet.specs.Block.{afterPairs, endIn, priceIn}
-use Rattle.sheet.proofs.Fill.{held-is, fill-next}
+use Rattle.lines.proofs.Fill.{held-is, fill-next}
+use Rattle.lines.proofs.Lines.{fields-read}
 use Rattle.sheet.proofs.Curves.{pairs-none, pairs-more, pairs-break, end-at, price-at}
 use Rattle.sheet.proofs.block.pairs_at.Statement.{statement}
 use Rattle.sheet.proofs.block.pairs_at.Tie as tie
@@ -40,7 +41,7 @@ returns : tie.Need-returns Inv-loop μ-loop
 returns c =
     let l = c .before .before .before .before .loop in
     let test = c .before .before .before .loop-test .taken in
-    pairs-break _ _ _ _ (l .inv .1) _ _ test (sym (c .before .before .fields-at .ensures .next) ∙ c .enum-told .given .1) refl
+    pairs-break _ _ _ _ (l .inv .1) _ _ test (sym (fields-read 14 2 _ _ _ refl (c .before .before .fields-at .ensures) .next) ∙ c .enum-told .given .1) refl
 
 array-copy-out-t20 : tie.Need-array-copy-out-t20 Inv-loop μ-loop
 array-copy-out-t20 c = search needs
@@ -69,7 +70,7 @@ loop-less c = search needs
 loop-again : tie.Need-loop-again Inv-loop μ-loop
 loop-again c =
     let l = c .before .before .before .before .before .before .before .before .loop in
-    let r = c .before .before .before .before .before .before .fields-at .ensures in
+    let r = fields-read 14 2 _ _ _ refl (c .before .before .before .before .before .before .fields-at .ensures) in
     let few : l .j < 12 = omega arith in
     let a = c .before .before .before .before .before .before .before .before .before .before .args in (
       omega arith,

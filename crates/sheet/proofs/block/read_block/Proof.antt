@@ -1,13 +1,14 @@
 -- `block::read_block` meets its contract, line by line.
-use mathlib.Core.Path.{_≡_, sym, _∙_}
+use mathlib.Core.Path.{_≡_, refl, sym, _∙_}
 use mathlib.Core.List.{List}
 use Prim.Native.Nat.{ℕ}
 use native.Mathlib.Omega.{arith}
 use Rattle.text.specs.declared.Next.the-variants.{At}
-use Rattle.sheet.specs.Line.{lineAt}
+use Rattle.lines.specs.Line.{lineAt}
 use Rattle.sheet.specs.Block.{curveLine, curveOf}
-use Rattle.sheet.proofs.Fill.{held-is}
-use Rattle.sheet.proofs.Rows.{line-is, ahead-same}
+use Rattle.lines.proofs.Fill.{held-is}
+use Rattle.lines.proofs.Lines.{FieldsRead, fields-read, line-is}
+use Rattle.sheet.proofs.Values.{ahead-same}
 use Rattle.sheet.proofs.Blocks.{block-line1, block-line2, block-line3, block-row, block-read}
 use borrow.Author.Needs.{needs}
 use Rattle.sheet.proofs.block.read_block.Statement.{statement}
@@ -20,8 +21,11 @@ text c = c .before .before .before .before .args .s .now
 abbrev begins : tie.After-line-end → ℕ
 begins c = c .before .before .before .before .args .at
 
+fields1 : (c : tie.After-line-end) → FieldsRead 0 10 (text c) (begins c) (c .before .before .fields-at .result)
+fields1 c = fields-read 0 10 _ (begins c) _ refl (c .before .before .fields-at .ensures)
+
 line1 : (c : tie.After-line-end) → lineAt 0 10 (text c) (begins c) ≡ c .line-end .result
-line1 c = line-is 0 10 _ (begins c) _ _ (c .before .before .fields-at .ensures .next) (c .line-end .ensures)
+line1 c = line-is 0 10 _ (begins c) _ _ (fields1 c .next) (c .line-end .ensures)
 
 module _ (c : tie.After-known-told) where
   abbrev in1 : tie.After-line-end
@@ -132,7 +136,7 @@ array-copy-out-t25 c = search needs
 returns-5 : tie.Need-returns-5
 returns-5 c =
     let k = c .before .before .before .before .before .before .before in
-    let v = in1 (in2 (in3 k)) .before .before .fields-at .ensures .values in
+    let v = fields1 (in1 (in2 (in3 k))) .values in
     block-read _ _ _ (line2-at (in2 (in3 k))) _ (line3-at (in3 k)) _ (line4-at k) _ (c .before .before .before .before .before .before .rows-at .ensures) _ _ _ _
     (c .before .before .before .before .before .if1 .left)
     (held-is _ _ (c .t25 .given) (v 0 (omega arith))) (c .before .before .before .before .ahead-of .ensures ∙ ahead-same _ _ v) (da-is (in3 k)) (rt-is k)

@@ -1,4 +1,4 @@
--- `sheet::text::more_digits` reads up to six digits more. The loop's invariant: the whole is what v says so far and then the rest from
+-- `digits::more_digits` reads up to six digits more. The loop's invariant: the whole is what v says so far and then the rest from
 -- here, and v has as many digits as are read.
 use mathlib.Core.Path.{_≡_, refl, sym, _∙_}
 use Prim.Native.Nat.{_<_, _≤_, _-_, _^_}

@@ -1,4 +1,4 @@
--- `sheet::text::natural_at` reads a zero alone, or a digit from 1 to 9 and up to six more.
+-- `digits::natural_at` reads a zero alone, or a digit from 1 to 9 and up to six more.
 use mathlib.Core.Path.{_∙_}
 use native.Mathlib.Omega.{arith}
 use borrow.Author.Needs.{needs}

@@ -1,4 +1,4 @@
--- `sheet::text::negative` is the text that its digits say behind a minus.
+-- `digits::negative` is the number that its digits say behind a minus.
 use borrow.Author.Needs.{needs}
 use Rattle.text.proofs.Numbers.{negative-fits, negative-is}
 use Rattle.text.proofs.digits.negative.Statement.{statement}

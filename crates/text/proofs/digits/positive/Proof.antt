@@ -1,4 +1,4 @@
--- `sheet::text::positive` is the text that its digits say.
+-- `digits::positive` is the number that its digits say.
 use borrow.Author.Needs.{needs}
 use Rattle.text.proofs.Numbers.{positive-is}
 use Rattle.text.proofs.digits.positive.Statement.{statement}

@@ -1,0 +1,15 @@
+-- Laws that the proofs of the crate's functions cite, and those by which texts of lines are compared and printed.
+pub mod Fill
+pub mod Lines
+pub mod Whole
+pub mod Rows
+pub mod Agree
+pub mod RowsAgree
+pub mod Along
+pub mod Ended
+pub mod RowsEnded
+pub mod Cut
+pub mod Pieces
+pub mod Holds
+pub mod Prints
+pub mod Unique

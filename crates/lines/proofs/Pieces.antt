@@ -1,0 +1,105 @@
+-- The pieces of a text: where each ends and what stands behind it, and what a text shares with its first piece.
+use mathlib.Core.Path.{_≡_, refl, sym, ap, _∙_}
+use mathlib.Core.Bool.{Bool, true, false, false≢true}
+use mathlib.Core.List.{List, [], _∷_}
+use Prim.Native.Nat.{ℕ, _+_, _-_, _≤_, _<_}
+use native.Mathlib.Numerals.{add-one}
+use native.Mathlib.Omega.{arith}
+use borrow.Author.Tests.{eqb-true}
+use lib.Dec.{eqb}
+use lib.ListN.{length, drop, take, length-drop, drop-of-length-le}
+use lib.Seq.{take-all, drop-cons, drop-length, getD-take}
+use Rattle.exact.specs.Choice.{if_then_else_}
+use Rattle.exact.proofs.Parts.{by-test}
+use Rattle.text.specs.declared.Next.{Next}
+use Rattle.text.specs.declared.Next.the-variants.{At, Wrong}
+use Rattle.text.specs.Text.{byteAt}
+use Rattle.lines.specs.Cut.{emptyIn, behind}
+use Rattle.lines.specs.Pieces.{orEnd, pieceAfter, upToPlace, firstPiece, isSome}
+use Rattle.lines.proofs.Along.{closing, never-at}
+use Rattle.lines.proofs.Ended.{Ended}
+use Rattle.lines.proofs.Cut.{behind-at, behind-none, behind-range}
+
+-- ---- the place behind a piece that begins at a place, as the code looks for it, and whether bytes stand there
+
+module _ (s : List ℕ) (at : ℕ) where
+  abbrev pub Behind : ℕ → Type 0
+  Behind r = (drop r s ≡ behind (drop at s)) × (r ≤ length s)
+
+  behind-end : (x : Next) → emptyIn true (drop at s) at ≡ x → Behind (orEnd x s)
+  behind-end (At i) e = (behind-at s at i e, behind-range s at i true e .1)
+  behind-end Wrong e = (drop-length s ∙ sym (behind-none s at e), omega arith)
+
+  pub piece-behind : (r : ℕ) → r ≡ pieceAfter s at → Behind r
+  unfolding pieceAfter
+  piece-behind r e = rw e (behind-end (emptyIn true (drop at s) at) refl)
+
+  pub some-left : at < length s → isSome (drop at s) ≡ true
+  some-left h = rw (drop-cons s at 0 h)
+
+  pub none-left : length s ≤ at → isSome (drop at s) ≡ false
+  none-left h = rw (drop-of-length-le s h)
+
+  -- a text that is lent from a place to its end
+  pub lent-to-the-end : take (length s - at) (drop at s) ≡ drop at s
+  lent-to-the-end = take-all (length s - at) (drop at s) (omega (arith, length-drop at s))
+
+-- ---- where the first empty line of the bytes t ends: behind its line feed, which is the first byte or stands behind another
+
+data EmptyAt (start : Bool) (t : List ℕ) (i j : ℕ) : Type 0 where
+  at-once : start ≡ true → byteAt t 0 ≡ 10 → j ≡ i + 1 → EmptyAt start t i j
+  behind-line : (m : ℕ) → byteAt t m ≡ 10 → byteAt t (m + 1) ≡ 10 → j ≡ i + (m + 2) → EmptyAt start t i j
+
+further : (start : Bool) (b : ℕ) (t : List ℕ) (i j : ℕ) → EmptyAt false t (i + 1) j → EmptyAt start (b ∷ t) i j
+further start b t i j (at-once e f h) = absurd (false≢true e)
+further start b t i j (behind-line m f g h) = behind-line (m + 1) (rw (add-one m) f) (rw (add-one (m + 1)) g) (omega arith)
+
+begun : (start : Bool) (b : ℕ) (t : List ℕ) (i j : ℕ) → b ≡ 10 → EmptyAt true t (i + 1) j → EmptyAt start (b ∷ t) i j
+begun start b t i j e (at-once s f h) = behind-line 0 e f (omega arith)
+begun start b t i j e (behind-line m f g h) = further start b t i j (behind-line m f g h)
+
+empty-found : (start : Bool) (t : List ℕ) (i j : ℕ) → emptyIn start t i ≡ At j → EmptyAt start t i j
+unfolding emptyIn
+empty-found start [] i j = λ e. absurd (never-at e)
+empty-found start (b ∷ t) i j =
+    by-test (eqb b 10) (λ x. (if x then (if start then At (i + 1) else emptyIn true t (i + 1)) else emptyIn false t (i + 1)) ≡ At j → EmptyAt start (b ∷ t) i j)
+    (λ h. feed start (eqb-true b 10 h) (empty-found true t (i + 1) j))
+    (λ h e. further start b t i j (empty-found false t (i + 1) j e))
+  where
+    feed : (x : Bool) → b ≡ 10 → (emptyIn true t (i + 1) ≡ At j → EmptyAt true t (i + 1) j)
+        → (if x then At (i + 1) else emptyIn true t (i + 1)) ≡ At j → EmptyAt x (b ∷ t) i j
+    feed true h f e = at-once refl h (cc)
+    feed false h f e = begun false b t i j h (f e)
+
+-- ---- a text and its first piece are the same, begin with an empty line both, or are the same up to the empty line
+
+pub data Shares (s t : List ℕ) : Type 0 where
+  whole : s ≡ t → Shares s t
+  empty : byteAt s 0 ≡ 10 → byteAt t 0 ≡ 10 → Shares s t
+  lines : (m : ℕ) → Ended s t 0 0 m → Shares s t
+
+module _ (s : List ℕ) where
+  piece-byte : (j i : ℕ) → i < j → byteAt (take j s) i ≡ byteAt s i
+  piece-byte j i h = getD-take j s i 256 h
+
+  piece-ends : (j : ℕ) → EmptyAt true s 0 j → Shares s (take j s)
+  piece-ends j (at-once e f h) = empty f (piece-byte j 0 (omega arith) ∙ f)
+  piece-ends j (behind-line m f g h) = lines m (record {
+    along = record {
+      same = λ i l. sym (piece-byte j (0 + i) (omega arith));
+      stop = ap closing (zero m f);
+    };
+    one = ap closing (zero (m + 1) g);
+    other = ap closing (piece-byte j (0 + (m + 1)) (omega arith) ∙ zero (m + 1) g);
+  })
+    where
+      zero : (i : ℕ) → byteAt s i ≡ 10 → byteAt s (0 + i) ≡ 10
+      zero i e = let same : 0 + i ≡ i = omega arith in rw same e
+
+  pub piece-shares : Shares s (firstPiece s)
+  unfolding firstPiece
+  piece-shares = go (emptyIn true s 0) (empty-found true s 0)
+    where
+      go : (x : Next) → ((j : ℕ) → x ≡ At j → EmptyAt true s 0 j) → Shares s (upToPlace x s)
+      go (At j) f = piece-ends j (f j refl)
+      go Wrong f = whole refl

@@ -1,0 +1,75 @@
+-- `field::value_at` reads the number behind a key, and behind key 23 also a minus alone.
+use mathlib.Core.Path.{_∙_, sym}
+use native.Mathlib.Omega.{arith}
+use borrow.Author.Needs.{needs}
+use borrow.Author.Tests.{eq-eqb, ne-eqb}
+use lib.Dec.{lit<}
+use Rattle.lines.specs.Line.{valueAt}
+use Rattle.text.proofs.Numbers.{byte-inside}
+use Rattle.lines.proofs.field.value_at.Statement.{statement}
+use Rattle.lines.proofs.field.value_at.Tie as tie
+
+number-at-requires : tie.Need-number-at-requires
+number-at-requires c κs = search needs
+
+returns : tie.Need-returns
+unfolding valueAt
+returns c = simp (ne-eqb _ _ (c .if1 .taken)) (c .before .number-at .ensures)
+
+enum-told : tie.Need-enum-told
+enum-told c = search needs
+
+returns-2 : tie.Need-returns-2
+unfolding valueAt
+returns-2 c =
+    let n = c .before .before in
+    simp (eq-eqb _ _ (n .if1 .left), sym (n .before .number-at .ensures) ∙ c .enum-told .given .1) (c .enum-told .given .1)
+
+enum-told-2 : tie.Need-enum-told-2
+enum-told-2 c = search needs
+
+byte-at-requires : tie.Need-byte-at-requires
+byte-at-requires c κs = search needs
+
+add-t8 : tie.Need-add-t8
+add-t8 c =
+    let a = c .before .before .before .before .before .before .before .args in
+    omega (arith, byte-inside (a .s .now) (a .at) 45 (sym (c .before .byte-at .ensures) ∙ c .if2 .taken) (lit< tt))
+
+returns-3 : tie.Need-returns-3
+unfolding valueAt
+returns-3 c =
+    let b = c .before .before in
+    let n = b .before .before in
+    simp (
+      eq-eqb _ _ (n .if1 .left),
+      sym (n .before .number-at .ensures) ∙ b .enum-told2 .given .1,
+      ← c .before .byte-at .ensures,
+      eq-eqb _ _ (c .if2 .taken),
+    )
+
+returns-4 : tie.Need-returns-4
+unfolding valueAt
+returns-4 c =
+    let b = c .before .before in
+    let n = b .before .before in
+    simp (
+      eq-eqb _ _ (n .if1 .left),
+      sym (n .before .number-at .ensures) ∙ b .enum-told2 .given .1,
+      ← c .before .byte-at .ensures,
+      ne-eqb _ _ (c .if2 .left),
+    )
+
+pub value-at-spec : {M : Type 1} → statement M
+value-at-spec =
+    tie.close
+    (tie.spec
+    number-at-requires
+    returns
+    enum-told
+    returns-2
+    enum-told-2
+    byte-at-requires
+    add-t8
+    returns-3
+    returns-4)

@@ -1,0 +1,61 @@
+-- `is_whole` meets its contract, by the last byte and the one before it.
+use mathlib.Core.Path.{sym, _∙_}
+use borrow.Author.Needs.{needs}
+use Rattle.lines.proofs.Whole.{ends-not, ends-alone, ends-behind, ends-other}
+use Rattle.lines.proofs.is_whole.Statement.{statement}
+use Rattle.lines.proofs.is_whole.Tie as tie
+
+returns : tie.Need-returns
+returns c = search needs
+
+sub-byte-at : tie.Need-sub-byte-at
+sub-byte-at c = search needs
+
+byte-at-requires : tie.Need-byte-at-requires
+byte-at-requires c κs = search needs
+
+returns-2 : tie.Need-returns-2
+returns-2 c =
+    let A = c .before .before .before .before .args in
+    sym (ends-not (A .text .now) (A .n) (λ e. c .if2 .taken (c .before .byte-at .ensures ∙ e)))
+
+returns-3 : tie.Need-returns-3
+returns-3 c =
+    let A = c .before .before .before .before .before .args in
+    sym (ends-alone (A .text .now) (A .n) (c .if3 .taken) (sym (c .before .before .byte-at .ensures) ∙ c .before .if2 .left))
+
+sub-byte-at-2 : tie.Need-sub-byte-at-2
+sub-byte-at-2 c = search needs
+
+byte-at-requires-2 : tie.Need-byte-at-requires-2
+byte-at-requires-2 c κs = search needs
+
+returns-4 : tie.Need-returns-4
+returns-4 c =
+    let A = c .before .before .before .before .before .before .before .args in
+    sym
+    (ends-behind (A .text .now) (A .n) (c .before .before .before .before .before .if1 .left) (c .before .before .if3 .left)
+    (sym (c .before .before .before .before .byte-at .ensures) ∙ c .before .before .before .if2 .left)
+    (sym (c .before .byte-at2 .ensures) ∙ c .if4 .taken))
+
+returns-5 : tie.Need-returns-5
+returns-5 c =
+    let A = c .before .before .before .before .before .before .before .args in
+    sym
+    (ends-other (A .text .now) (A .n) (c .before .before .before .before .before .if1 .left) (c .before .before .if3 .left)
+    (sym (c .before .before .before .before .byte-at .ensures) ∙ c .before .before .before .if2 .left)
+    (λ e. c .if4 .left (c .before .byte-at2 .ensures ∙ e)))
+
+pub is-whole-spec : {M : Type 1} → statement M
+is-whole-spec =
+    tie.close
+    (tie.spec
+    returns
+    sub-byte-at
+    byte-at-requires
+    returns-2
+    returns-3
+    sub-byte-at-2
+    byte-at-requires-2
+    returns-4
+    returns-5)

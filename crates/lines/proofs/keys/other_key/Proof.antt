@@ -1,0 +1,46 @@
+-- `keys::other_key` compares a key of the table: each arm's byte string is the table's key of that number, and the last arm's
+-- number is 57, since it is none of the others.
+use mathlib.Core.Path.{refl}
+use native.Mathlib.Omega.{arith}
+use Rattle.lines.proofs.Lines.{key-same, none-from}
+use Rattle.lines.proofs.keys.other_key.Statement.{statement}
+use Rattle.lines.proofs.keys.other_key.Tie as tie
+
+last : tie.Need-returns-22
+last c =
+    let a = c .before .before .before .before in
+    let h = none-from (a .args .k) 36 21 (a .pre .0) (c .before .before .match .rest) in
+    key-same (a .args .k) 57 _ _ (omega arith) (c .key-at22 .ensures)
+
+pub other-key-spec : {M : Type 1} → statement M
+other-key-spec =
+    tie.close
+    (tie.spec
+    (λ c. refl) (λ c κs. tt) (λ c. refl) (λ c κs. tt) (λ c. refl) (λ c κs. tt) (λ c. refl) (λ c κs. tt)
+    (λ c. refl) (λ c κs. tt) (λ c. refl) (λ c κs. tt) (λ c. refl) (λ c κs. tt) (λ c. refl) (λ c κs. tt)
+    (λ c. refl) (λ c κs. tt) (λ c. refl) (λ c κs. tt) (λ c. refl) (λ c κs. tt) (λ c. refl) (λ c κs. tt)
+    (λ c. refl) (λ c κs. tt) (λ c. refl) (λ c κs. tt) (λ c. refl) (λ c κs. tt) (λ c. refl) (λ c κs. tt)
+    (λ c. refl) (λ c κs. tt) (λ c. refl) (λ c κs. tt) (λ c. refl) (λ c κs. tt) (λ c. refl) (λ c κs. tt)
+    (λ c. refl) (λ c κs. tt) (λ c. refl) (λ c κs. tt)
+    (λ c. key-same _ 36 _ _ (c .before .before .match .keys1) (c .key-at .ensures))
+    (λ c. key-same _ 37 _ _ (c .before .before .match .keys2) (c .key-at2 .ensures))
+    (λ c. key-same _ 38 _ _ (c .before .before .match .keys3) (c .key-at3 .ensures))
+    (λ c. key-same _ 39 _ _ (c .before .before .match .keys4) (c .key-at4 .ensures))
+    (λ c. key-same _ 40 _ _ (c .before .before .match .keys5) (c .key-at5 .ensures))
+    (λ c. key-same _ 41 _ _ (c .before .before .match .keys6) (c .key-at6 .ensures))
+    (λ c. key-same _ 42 _ _ (c .before .before .match .keys7) (c .key-at7 .ensures))
+    (λ c. key-same _ 43 _ _ (c .before .before .match .keys8) (c .key-at8 .ensures))
+    (λ c. key-same _ 44 _ _ (c .before .before .match .keys9) (c .key-at9 .ensures))
+    (λ c. key-same _ 45 _ _ (c .before .before .match .keys10) (c .key-at10 .ensures))
+    (λ c. key-same _ 46 _ _ (c .before .before .match .keys11) (c .key-at11 .ensures))
+    (λ c. key-same _ 47 _ _ (c .before .before .match .keys12) (c .key-at12 .ensures))
+    (λ c. key-same _ 48 _ _ (c .before .before .match .keys13) (c .key-at13 .ensures))
+    (λ c. key-same _ 49 _ _ (c .before .before .match .keys14) (c .key-at14 .ensures))
+    (λ c. key-same _ 50 _ _ (c .before .before .match .keys15) (c .key-at15 .ensures))
+    (λ c. key-same _ 51 _ _ (c .before .before .match .keys16) (c .key-at16 .ensures))
+    (λ c. key-same _ 52 _ _ (c .before .before .match .keys17) (c .key-at17 .ensures))
+    (λ c. key-same _ 53 _ _ (c .before .before .match .keys18) (c .key-at18 .ensures))
+    (λ c. key-same _ 54 _ _ (c .before .before .match .keys19) (c .key-at19 .ensures))
+    (λ c. key-same _ 55 _ _ (c .before .before .match .keys20) (c .key-at20 .ensures))
+    (λ c. key-same _ 56 _ _ (c .before .before .match .keys21) (c .key-at21 .ensures))
+    last)

@@ -1,0 +1,7 @@
+-- Lines of keys and numbers, as document 01 prints them, and the text cut at its empty lines.
+pub mod Keys
+pub mod Line
+pub mod Rows
+pub mod Print
+pub mod Cut
+pub mod Pieces

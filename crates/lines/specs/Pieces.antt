@@ -1,0 +1,37 @@
+-- A text in pieces, cut at its empty lines: the first bytes of each decide it, and an absent one is empty.
+use mathlib.Core.Bool.{Bool, true, false}
+use mathlib.Core.List.{List, [], _∷_}
+use Prim.Native.Nat.{ℕ, zero, suc}
+use lib.ListN.{length, take, drop}
+use Rattle.text.specs.declared.Next.{Next}
+use Rattle.text.specs.declared.Next.the-variants.{At, Wrong}
+use Rattle.lines.specs.Cut.{emptyIn, behind}
+
+-- what stands behind k pieces
+unfoldable pub restAfter : ℕ → List ℕ → List ℕ
+restAfter zero s = s
+restAfter (suc k) s = behind (restAfter k s)
+
+abbrev pub orEnd : Next → List ℕ → ℕ
+orEnd (At i) s = i
+orEnd Wrong s = length s
+
+-- the place behind the piece that begins at a place: after its empty line, or the text's end
+unfoldable pub pieceAfter : List ℕ → ℕ → ℕ
+pieceAfter s at = orEnd (emptyIn true (drop at s) at) s
+
+abbrev pub upToPlace : Next → List ℕ → List ℕ
+upToPlace (At i) s = take i s
+upToPlace Wrong s = s
+
+-- the first piece of a text, with its empty line; and piece k, from 0
+unfoldable pub firstPiece : List ℕ → List ℕ
+firstPiece s = upToPlace (emptyIn true s 0) s
+
+abbrev pub piece : ℕ → List ℕ → List ℕ
+piece k s = firstPiece (restAfter k s)
+
+-- whether any byte stands there
+abbrev pub isSome : List ℕ → Bool
+isSome [] = false
+isSome (b ∷ t) = true
