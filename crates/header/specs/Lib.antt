@@ -1,0 +1,4 @@
+-- A day's header as bytes: its lines, their ranges, and the marks that they say.
+pub mod Header
+pub mod Places
+pub mod Examples

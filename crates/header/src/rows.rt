@@ -1,0 +1,87 @@
+// Rows of marks, over the count of a day's hours: a day on which the clocks change has another count.
+ghost use mathlib.Core.Path.{_≡_};
+ghost use mathlib.Core.Bool.{false};
+ghost use Prim.Native.Nat.{_+_, _<_, _≤_};
+ghost use lib.Dec.{eqb};
+ghost use lib.ListN.{length};
+ghost use Rattle.tariff.specs.Sheet.{allTo};
+ghost use Rattle.tariff.specs.Eligible.{marked};
+ghost use Rattle.text.specs.Number.{digitAt};
+ghost use Rattle.lines.specs.Line.{andThen, filled};
+ghost use Rattle.marks.specs.Word.{word};
+ghost use Rattle.header.specs.Header.{digitsAt};
+use text::Next;
+
+// The place after a digit for each hour.
+pub fn digits_at(s: &[u8], at: usize, hours: usize) -> Next
+    ensures { λ r. ⌜ r ≡ digitsAt hours (now (s .entry)) at ⌝ }
+{
+    let mut i = at;
+    let mut count: usize = 0;
+    while count < hours {
+        if text::digit_at(s, i) == 10 {
+            return Next::Wrong;
+        }
+        i += 1;
+        count += 1;
+    }
+    Next::At(i)
+}
+
+// The same behind a key, where that was found.
+pub fn digits_after(s: &[u8], next: Next, hours: usize) -> Next
+    ensures { λ r. ⌜ r ≡ andThen next (digitsAt hours (now (s .entry))) ⌝ }
+{
+    match next {
+        Next::At(at) => digits_at(s, at, hours),
+        Next::Wrong => Next::Wrong,
+    }
+}
+
+// Whether each hour's digit is one of those that a word admits, digit d by bit d.
+pub fn all_admitted(s: &[u8], at: usize, hours: usize, admitted: u32) -> bool
+    requires { ⌜ marked admitted 10 ≡ false ⌝ }
+    ensures { λ r. ⌜ r ≡ allTo (λ h. marked admitted (digitAt (now (s .entry)) (at + h))) hours ⌝ }
+{
+    let mut i = at;
+    let mut h: usize = 0;
+    while h < hours {
+        let digit = text::digit_at(s, i);
+        if !marks::is_marked(admitted, digit as u32) {
+            return false;
+        }
+        i += 1;
+        h += 1;
+    }
+    true
+}
+
+// The hours whose digit is 1, as a word.
+pub fn word_at(s: &[u8], at: usize, hours: usize) -> u32
+    requires { ⌜ (hours < 32) × (at + hours ≤ length (now s)) ⌝ }
+    ensures { λ r. ⌜ r ≡ word hours (λ h. eqb (digitAt (now (s .entry)) (at + h)) 1) ⌝ }
+{
+    let mut row: u32 = 0;
+    let mut h: usize = 0;
+    while h < hours {
+        if text::digit_at(s, at + h) == 1 {
+            row |= 1 << h;
+        }
+        h += 1;
+    }
+    row
+}
+
+// The digits themselves, in an array for 24 hours.
+pub fn cat_at(s: &[u8], at: usize, hours: usize) -> [u8; 24]
+    requires { ⌜ (hours ≤ 24) × (at + hours ≤ length (now s)) ⌝ }
+    ensures { λ r. ⌜ r ≡ filled hours 24 (λ h. digitAt (now (s .entry)) (at + h)) 0 ⌝ }
+{
+    let mut cat = [0u8; 24];
+    let mut h: usize = 0;
+    while h < hours {
+        cat[h] = text::digit_at(s, at + h) as u8;
+        h += 1;
+    }
+    cat
+}

@@ -1,0 +1,53 @@
+-- The words of the rule's parts joined and masked are the word of the hours that the rule excludes.
+use mathlib.Core.Path.{_≡_, refl, sym, _∙_, ap}
+use mathlib.Core.Bool.{Bool, true, false, _&&_, _||_, or-false}
+use Prim.Native.Nat.{ℕ, _-_, _^_, _<_}
+use lib.Dec.{eqb}
+use lib.ListN.{getD}
+use lib.Bits.{bitAnd, bitOr}
+use Rattle.tariff.specs.declared.Marks.{Marks}
+use Rattle.tariff.specs.Eligible.{marked, markedNear, excluded}
+use Rattle.marks.specs.Word.{word}
+use Rattle.marks.proofs.Marked.{or-marks}
+use Rattle.marks.proofs.Rows.{marked-word, masked}
+
+module _ (n : ℕ) (m : Marks) where
+  abbrev pub without : ℕ → Bool
+  without h = eqb (getD (m .cat) h 0) 0
+
+  -- what excludes an hour whatever `rtc` is
+  abbrev pub always : ℕ → Bool
+  always h = without h || marked (m .x1) h || marked (m .x2) h || marked (m .x3) h || markedNear n (m .x4) h
+
+  holds : (f : ℕ → Bool) (w h : ℕ) → w ≡ word n f → h < n → marked w h ≡ f h
+  holds f w h e u = ap (λ (x : ℕ). marked x h) e ∙ marked-word f n h u
+
+  module _ (day none s4 : ℕ) (mask : day ≡ 2 ^ n - 1) (e : none ≡ word n without) (e4 : s4 ≡ word n (markedNear n (m .x4))) where
+    abbrev pub joinedAlways : ℕ
+    joinedAlways = bitOr (bitOr (bitOr (bitOr none (m .x1)) (m .x2)) (m .x3)) s4
+
+    always-at : (h : ℕ) → h < n → marked joinedAlways h ≡ always h
+    always-at h u =
+        or-marks _ s4 h
+        (or-marks _ (m .x3) h (or-marks _ (m .x2) h (or-marks none (m .x1) h (holds without none h e u) refl) refl) refl)
+        (holds (markedNear n (m .x4)) s4 h e4 u)
+
+    pub excluded-plain : m .rtc ≡ false → bitAnd joinedAlways day ≡ word n (excluded n m)
+    unfolding excluded
+    excluded-plain off =
+        ap (bitAnd joinedAlways) mask
+        ∙ masked joinedAlways n (excluded n m)
+        (λ h u.
+        always-at h u
+        ∙ sym (or-false (always h))
+        ∙ (λ i. always h || (sym off i && (markedNear n (m .x5) h || markedNear n (m .x6) h))))
+
+    pub excluded-rtc : (s5 s6 : ℕ) → m .rtc ≡ true → s5 ≡ word n (markedNear n (m .x5)) → s6 ≡ word n (markedNear n (m .x6))
+        → bitAnd (bitOr joinedAlways (bitOr s5 s6)) day ≡ word n (excluded n m)
+    unfolding excluded
+    excluded-rtc s5 s6 on e5 e6 =
+        ap (bitAnd (bitOr joinedAlways (bitOr s5 s6))) mask
+        ∙ masked (bitOr joinedAlways (bitOr s5 s6)) n (excluded n m)
+        (λ h u.
+        or-marks _ (bitOr s5 s6) h (always-at h u) (or-marks s5 s6 h (holds _ s5 h e5 u) (holds _ s6 h e6 u))
+        ∙ (λ i. always h || (sym on i && (markedNear n (m .x5) h || markedNear n (m .x6) h))))

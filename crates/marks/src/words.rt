@@ -1,0 +1,60 @@
+// Rows of marks as words, over the count of a day's hours: a day on which the clocks change has another count.
+ghost use mathlib.Core.Path.{_≡_};
+ghost use Prim.Native.Nat.{_-_, _^_, _<_, _≤_};
+ghost use lib.Dec.{eqb};
+ghost use lib.ListN.{getD};
+ghost use Rattle.tariff.specs.Eligible.{markedNear, excluded};
+ghost use Rattle.marks.specs.Word.{word};
+use tariff::Marks;
+
+// The mask of a day: each of its hours is marked.
+pub fn whole(hours: u32) -> u32
+    requires { ⌜ hours < 32 ⌝ }
+    ensures { λ r. ⌜ r ≡ 2 ^ hours - 1 ⌝ }
+{
+    (1 << hours) - 1
+}
+
+// The hours that are marked or have a marked hour of their day at most two before or after. The word is masked before it is
+// shifted, so that a bit above the day marks nothing in it, and after, so that no hour past the day is marked.
+pub fn spread(row: u32, hours: u32) -> u32
+    requires { ⌜ hours < 32 ⌝ }
+    ensures { λ r. ⌜ r ≡ word hours (markedNear hours row) ⌝ }
+{
+    let day = whole(hours);
+    let own = row & day;
+    (own | (own << 1) | (own << 2) | (own >> 1) | (own >> 2)) & day
+}
+
+// The hours without a category; `cat` has a digit for each of 24.
+pub fn no_category(cat: [u8; 24], hours: u32) -> u32
+    requires { ⌜ hours ≤ 24 ⌝ }
+    ensures { λ r. ⌜ r ≡ word hours (λ h. eqb (getD cat h 0) 0) ⌝ }
+{
+    let mut row: u32 = 0;
+    let mut h: u32 = 0;
+    while h < hours {
+        if cat[h as usize] == 0 {
+            row |= 1 << h;
+        }
+        h += 1;
+    }
+    row
+}
+
+// The excluded hours. x5 and x6 are spread as x4 is, and count with `rtc` alone.
+pub fn excluded_in(m: Marks, hours: u32) -> u32
+    requires { ⌜ hours ≤ 24 ⌝ }
+    ensures { λ r. ⌜ r ≡ word hours (excluded hours m) ⌝ }
+{
+    let cat = m.cat;
+    let day = whole(hours);
+    let near_x4 = spread(m.x4, hours);
+    let near_x5 = spread(m.x5, hours);
+    let near_x6 = spread(m.x6, hours);
+    let always = no_category(cat, hours) | m.x1 | m.x2 | m.x3 | near_x4;
+    if m.rtc {
+        return (always | (near_x5 | near_x6)) & day;
+    }
+    always & day
+}
