@@ -1,2 +1,4 @@
--- The law of the crate's public function.
+-- The laws that the checks' proofs share, and those of the crate's public functions.
+pub mod Lines
+pub mod Seconds
 pub mod Unique

@@ -3,10 +3,9 @@ ghost use mathlib.Core.Path.{_≡_};
 ghost use mathlib.Core.Bool.{Bool, true, _&&_};
 ghost use Prim.Native.Nat.{ℕ, _+_, _<_, _≤_};
 ghost use lib.IntN.{ℤ, pos, _+ℤ_};
-ghost use lib.Signed.{leZ};
 ghost use Rattle.exact.specs.Whole.{Within, eqZ, sumTo};
 ghost use Rattle.tariff.specs.Sheet.{curveInRange, curveKeeps};
-ghost use Rattle.tariff.specs.Reply.{shown, clear};
+ghost use Rattle.tariff.specs.Reply.{shown, clear, unless};
 ghost use Rattle.tariff.specs.Hour.{interval, form, range, order, curves, secondsSum};
 use crate::ranges;
 use tariff::Check;
@@ -15,7 +14,6 @@ use tariff::Expected;
 use tariff::Found;
 use tariff::Hour;
 use tariff::Kw;
-use tariff::Price;
 use tariff::Seconds;
 
 pub fn form_fault(h: Hour) -> Found
@@ -81,12 +79,6 @@ pub fn order_fault(h: Hour, expected: Expected) -> Found
     }
 }
 
-pub fn price_at_most(a: Price, b: Price) -> bool
-    ensures { λ r. ⌜ r ≡ leZ (a .0) (b .0) ⌝ }
-{
-    a.0 <= b.0
-}
-
 // Ends rise strictly; from the third step on no price is below the one before.
 pub fn curve_keeps(c: Curve) -> bool
     requires { ⌜ c .n ≤ 12 ⌝ }
@@ -106,7 +98,7 @@ pub fn curve_keeps(c: Curve) -> bool
             return false;
         }
         if 2 <= j {
-            if !price_at_most(at[j - 1], at[j]) {
+            if !units::price_at_most(at[j - 1], at[j]) {
                 return false;
             }
         }
@@ -143,6 +135,17 @@ pub fn is_an_hour(s: Seconds) -> bool
     s.0 == 3600
 }
 
+// Check 5, of an hour's or an import's seconds.
+pub fn sum_fault(s: Seconds) -> Found
+    ensures { λ r. ⌜ shown r ≡ unless (eqZ (s .0) (pos 3600)) 5 0 ⌝ }
+{
+    if is_an_hour(s) {
+        Found::Nothing
+    } else {
+        Found::Fault(Check::Seconds)
+    }
+}
+
 pub fn seconds_fault(h: Hour) -> Found
     requires { ⌜ (form h ≡ clear) × (range h ≡ clear) ⌝ }
     ensures { λ r. ⌜ shown r ≡ secondsSum h ⌝ }
@@ -156,9 +159,5 @@ pub fn seconds_fault(h: Hour) -> Found
         sum = seconds_plus(sum, v.s);
         i += 1;
     }
-    if is_an_hour(sum) {
-        Found::Nothing
-    } else {
-        Found::Fault(Check::Seconds)
-    }
+    sum_fault(sum)
 }

@@ -1,12 +1,15 @@
-// Checks 1 to 5 of an hour's record, in their order: form, range, order, curve, seconds.
+// Checks 1 to 5 of an hour's record, in their order: form, range, order, curve, seconds. Of an import's block all but curve.
 ghost use mathlib.Core.Path.{_≡_};
 ghost use Rattle.tariff.specs.Reply.{shown};
 ghost use Rattle.tariff.specs.Hour.{blockFault};
+ghost use Rattle.tariff.specs.Import.{importFault};
 use tariff::Expected;
 use tariff::Found;
 use tariff::Hour;
+use tariff::ImportHour;
 
 mod faults;
+mod imports;
 mod ranges;
 
 // The first of the faults 1 to 5.
@@ -30,4 +33,23 @@ pub fn block_fault(h: Hour, expected: Expected) -> Found
         return Found::Fault(check);
     }
     faults::seconds_fault(h)
+}
+
+// The first of the faults 1, 2, 3 and 5 of the import's block at place k of its day.
+pub fn import_fault(h: ImportHour, k: usize) -> Found
+    ensures { λ r. ⌜ shown r ≡ importFault h k ⌝ }
+{
+    let form = imports::form_fault(h);
+    if let Found::Fault(check) = form {
+        return Found::Fault(check);
+    }
+    let range = imports::range_fault(h);
+    if let Found::Fault(check) = range {
+        return Found::Fault(check);
+    }
+    let order = imports::order_fault(h, k);
+    if let Found::Fault(check) = order {
+        return Found::Fault(check);
+    }
+    imports::seconds_fault(h)
 }

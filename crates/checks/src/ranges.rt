@@ -3,7 +3,7 @@ ghost use mathlib.Core.Path.{_≡_};
 ghost use mathlib.Core.Bool.{Bool, true, _&&_};
 ghost use Prim.Native.Nat.{ℕ, _<_, _≤_};
 ghost use lib.IntN.{ℤ};
-ghost use Rattle.tariff.specs.Sheet.{liesIn, isSeconds, isHour, isPower, isCapacity, isBid, isPrice, stepInRange, curveInRange, uolInRange, aheadInRange, intervalInRange};
+ghost use Rattle.tariff.specs.Sheet.{isSeconds, isHour, isPower, isCapacity, isBid, isPrice, stepInRange, curveInRange, uolInRange, aheadInRange, intervalInRange};
 use tariff::Curve;
 use tariff::DayAhead;
 use tariff::Interval;
@@ -19,55 +19,46 @@ pub fn both(a: bool, b: bool) -> bool
     if a { b } else { false }
 }
 
-pub fn lies_in(x: i64, low: i64, high: i64) -> bool
-    ensures { λ r. ⌜ r ≡ liesIn low high x ⌝ }
-{
-    if x < low {
-        return false;
-    }
-    if high < x { false } else { true }
-}
-
 pub fn is_seconds(s: Seconds) -> bool
     ensures { λ r. ⌜ r ≡ isSeconds (s .0) ⌝ }
 {
-    lies_in(s.0, 1, 900)
+    units::lies_in(s.0, 1, 900)
 }
 
 pub fn is_hour(h: i64) -> bool
     ensures { λ r. ⌜ r ≡ isHour h ⌝ }
 {
-    lies_in(h, 0, 23)
+    units::lies_in(h, 0, 23)
 }
 
 pub fn is_power(k: Kw) -> bool
     ensures { λ r. ⌜ r ≡ isPower (k .0) ⌝ }
 {
-    lies_in(k.0, -2000000, 2000000)
+    units::lies_in(k.0, -2000000, 2000000)
 }
 
 pub fn is_capacity(k: Kw) -> bool
     ensures { λ r. ⌜ r ≡ isCapacity (k .0) ⌝ }
 {
-    lies_in(k.0, 0, 2000000)
+    units::lies_in(k.0, 0, 2000000)
 }
 
 pub fn is_bid(p: Price) -> bool
     ensures { λ r. ⌜ r ≡ isBid (p .0) ⌝ }
 {
-    lies_in(p.0, 0, 1000000)
+    units::lies_in(p.0, 0, 1000000)
 }
 
 pub fn is_move_price(p: MovePrice) -> bool
     ensures { λ r. ⌜ r ≡ isBid (p .0) ⌝ }
 {
-    lies_in(p.0, 0, 1000000)
+    units::lies_in(p.0, 0, 1000000)
 }
 
 pub fn is_price(p: Price) -> bool
     ensures { λ r. ⌜ r ≡ isPrice (p .0) ⌝ }
 {
-    lies_in(p.0, -1000000, 1000000)
+    units::lies_in(p.0, -1000000, 1000000)
 }
 
 pub fn are_capacities(a: Kw, b: Kw, c: Kw, d: Kw) -> bool

@@ -1,4 +1,4 @@
--- No two different replies satisfy the contract of the public function.
+-- No two different replies satisfy the contract of a public function.
 use mathlib.Core.Path.{_≡_, refl, ap, _∙_}
 use mathlib.Core.Bool.{Bool}
 use Prim.Native.Nat.{ℕ, _<_}
@@ -14,9 +14,11 @@ use Rattle.tariff.specs.declared.Expected.{Expected}
 use Rattle.tariff.specs.Units.{grains}
 use Rattle.tariff.specs.Reply.{shown, clear}
 use Rattle.tariff.proofs.Demands.{one-finding}
+use Rattle.tariff.proofs.Imports.{one-worth}
 use Rattle.intervals.specs.declared.Contributions.{Contributions}
 use Rattle.intervals.specs.Walk.{grainsAt, ContributionsOf}
 use Rattle.intervals.proofs.work_out.Reads as work-out
+use Rattle.intervals.proofs.import_part.Reads as import-part
 
 module _ (h : Hour) (isExcluded : Bool) (expected : Expected) (r s : Contributions)
     (of : ContributionsOf h isExcluded expected r) (like : ContributionsOf h isExcluded expected s) where
@@ -50,3 +52,6 @@ module _ (h : Hour) (isExcluded : Bool) (expected : Expected) (r s : Contributio
 
 pub one-work-out : OneReply work-out.Post
 one-work-out κ a r s u v p q = one-contributions (a .0) (a .1 .0) (a .1 .1 .0) r s p q
+
+pub one-import-part : OneReply import-part.Post
+one-import-part κ a r s u v p q = one-worth r s _ p q

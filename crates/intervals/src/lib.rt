@@ -1,17 +1,22 @@
-// The contributions of an hour's intervals, behind checks 1 to 7: everything of the hour call but the lent row.
+// The contributions of an hour's intervals, behind checks 1 to 7: everything of the hour call but the lent row. And what the block
+// of a curtailed import gives to its day, behind checks 1, 2, 3 and 5.
 ghost use mathlib.Core.Path.{_≡_};
 ghost use Prim.Native.Nat.{ℕ, _≤_};
 ghost use lib.IntN.{ℤ};
 ghost use Rattle.exact.specs.Whole.{sumTo};
 ghost use Rattle.tariff.specs.Reply.{clear};
 ghost use Rattle.tariff.specs.Hour.{form, range};
+ghost use Rattle.tariff.specs.Import.{worthTold, importPart};
 ghost use Rattle.intervals.specs.Walk.{grainsAt, WalkedTo, Bounded, refusedBy, ContributionsOf};
 use steps::Walked;
 use tariff::Expected;
 use tariff::Found;
 use tariff::Grains;
 use tariff::Hour;
+use tariff::ImportHour;
+use tariff::Worth;
 
+mod curtailed;
 mod derate;
 mod energy;
 mod others;
@@ -87,4 +92,16 @@ pub fn work_out(h: Hour, excluded: bool, expected: Expected) -> Contributions
         parts,
         sum,
     }
+}
+
+// What an import's block gives to its day: the sum of its counting intervals, or 0 where that is below 0.
+pub fn import_part(h: ImportHour, cts: i64, k: usize) -> Worth
+    ensures { λ r. ⌜ worthTold r ≡ importPart cts h k ⌝ }
+{
+    let fault = checks::import_fault(h, k);
+    if let Found::Fault(check) = fault {
+        return Worth::Refused(check);
+    }
+    let sum = curtailed::curtailed_sum(h, cts);
+    Worth::Part(units::grains_or_zero(sum))
 }

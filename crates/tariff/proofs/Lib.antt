@@ -17,4 +17,8 @@ pub mod Rows
 pub mod Answers
 pub mod Steps
 pub mod Ordered
+pub mod ImportRanges
+pub mod ImportGrains
+pub mod ImportDays
+pub mod Imports
 pub mod Demands

@@ -1,24 +1,13 @@
--- Tests joined: a conjunction taken apart, and a test that holds at each number below n.
+-- Tests joined: a test that holds at each number below n. The laws of a conjunction are passed on.
 use mathlib.Core.Path.{_≡_, refl, sym, _∙_, ap}
-use mathlib.Core.Bool.{Bool, true, false, _&&_, false≢true}
+use mathlib.Core.Bool.{Bool, true, false, _&&_}
 use Prim.Native.Nat.{ℕ, zero, suc, _+_, _<_}
 use native.Mathlib.Numerals.{add-one}
 use native.Mathlib.Decide.{decLt}
 use native.Mathlib.Omega.{arith}
 use Rattle.exact.proofs.Parts.{by-test}
+pub use Rattle.exact.proofs.Tests.{and-left, and-right, and-both}
 use Rattle.tariff.specs.Sheet.{allTo}
-
-pub and-left : (a b : Bool) → (a && b) ≡ true → a ≡ true
-and-left true b e = refl
-and-left false b e = e
-
-pub and-right : (a b : Bool) → (a && b) ≡ true → b ≡ true
-and-right true b e = e
-and-right false b e = absurd (false≢true e)
-
-pub and-both : (a b : Bool) → a ≡ true → b ≡ true → (a && b) ≡ true
-and-both true b p q = q
-and-both false b p q = p
 
 pub all-none : (f : ℕ → Bool) → allTo f 0 ≡ true
 unfolding allTo

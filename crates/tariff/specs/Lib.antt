@@ -8,3 +8,5 @@ pub mod Derate
 pub mod Contributions
 pub mod Hour
 pub mod Demand
+pub mod Import
+pub mod ImportExample

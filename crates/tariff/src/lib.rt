@@ -119,3 +119,42 @@ pub enum Found {
     Nothing,
     Fault(Check),
 }
+
+// A line of a curtailed import's block: what 25.6 reads of an interval. `cut` is 1 where the market curtailed the import.
+pub struct Curtailed {
+    pub s: Seconds,
+    pub cut: i64,
+    pub prof: Kw,
+    pub rten: Kw,
+    pub lbmp: Price,
+    pub bid: Price,
+    pub def: Price,
+}
+
+// The record of an import's block: the hour's day-ahead schedule and decremental bid, and `n` intervals, the first of `iv`.
+pub struct ImportHour {
+    pub hour: i64,
+    pub den: Kw,
+    pub dec: Price,
+    pub n: usize,
+    pub iv: [Curtailed; 30],
+}
+
+// What an import's block is worth: its part of the day's sum, or the check that refuses it.
+pub enum Worth {
+    Part(Grains),
+    Refused(Check),
+}
+
+// Where an import is refused: in its first two lines, in the block of an hour, or for bytes behind its last block.
+pub enum ImportFault {
+    Head(Check),
+    Block(usize, Check),
+    Surplus,
+}
+
+// What the import call gives back: paid, with the import's number, its sum and its cents, or refused.
+pub enum ImportAnswer {
+    Paid(i64, Grains, Cents),
+    Refused(ImportFault),
+}

@@ -1,9 +1,10 @@
 // Comparisons and choices of the units, for any values: each answers as its definition says and asks nothing of its caller.
 ghost use mathlib.Core.Path.{_≡_};
 ghost use lib.IntN.{ℤ, pos, natAbs};
-ghost use lib.Signed.{ltZ};
+ghost use lib.Signed.{ltZ, leZ};
 ghost use Rattle.exact.specs.Whole.{minℤ, maxℤ, eqZ};
 ghost use Rattle.tariff.specs.Units.{centsOf};
+ghost use Rattle.tariff.specs.Sheet.{liesIn};
 use tariff::Cents;
 use tariff::Grains;
 use tariff::Kw;
@@ -20,6 +21,12 @@ pub fn same(a: Kw, b: Kw) -> bool
     ensures { λ r. ⌜ r ≡ eqZ (a .0) (b .0) ⌝ }
 {
     a.0 == b.0
+}
+
+pub fn price_at_most(a: Price, b: Price) -> bool
+    ensures { λ r. ⌜ r ≡ leZ (a .0) (b .0) ⌝ }
+{
+    a.0 <= b.0
 }
 
 pub fn kw_min(a: Kw, b: Kw) -> Kw
@@ -53,6 +60,13 @@ pub fn grains_or_loss(g: Grains) -> Grains
     if g.0 < 0 { g } else { Grains(0) }
 }
 
+// What an import's hour gives: a gain, or nothing.
+pub fn grains_or_zero(g: Grains) -> Grains
+    ensures { λ r. ⌜ r .0 ≡ maxℤ (g .0) (pos 0) ⌝ }
+{
+    if g.0 < 0 { Grains(0) } else { g }
+}
+
 pub fn cents_of(g: Grains) -> Cents
     ensures { λ r. ⌜ r .0 ≡ centsOf (g .0) ⌝ }
 {
@@ -61,6 +75,16 @@ pub fn cents_of(g: Grains) -> Cents
     } else {
         Cents(g.0 / 3600000)
     }
+}
+
+// Whether a number lies in a range, both ends included.
+pub fn lies_in(x: i64, low: i64, high: i64) -> bool
+    ensures { λ r. ⌜ r ≡ liesIn low high x ⌝ }
+{
+    if x < low {
+        return false;
+    }
+    if high < x { false } else { true }
 }
 
 // A number without its sign, as it is printed.

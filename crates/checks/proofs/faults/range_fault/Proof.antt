@@ -1,35 +1,23 @@
 -- `faults::range_fault` meets its contract. The loop's invariant: each interval passed is in range.
 use mathlib.Core.Path.{_≡_, sym, _∙_, ap}
-use mathlib.Core.Bool.{true, false, _&&_}
-use Prim.Native.Nat.{ℕ, _+_, _-_, _<_, _≤_}
+use mathlib.Core.Bool.{Bool, true, _&&_}
+use Prim.Native.Nat.{ℕ, _-_, _<_, _≤_}
 use native.Mathlib.Omega.{arith}
 use borrow.Author.Needs.{needs}
 use borrow.Author.Count.{below-none, below-more}
 use lib.ListN.{getD}
 use Rattle.tariff.specs.declared.Hour.{Hour}
 use Rattle.tariff.specs.Sheet.{isHour, aheadInRange, intervalInRange}
-use Rattle.tariff.specs.Reply.{Verdict, clear, fault, unless, firstOf}
+use Rattle.tariff.specs.Reply.{firstOf}
 use Rattle.tariff.specs.Hour.{blank, interval, range}
-use Rattle.tariff.proofs.Checks.{clear-first, fault-first}
 use Rattle.tariff.proofs.Ranges.{form-says}
 use Rattle.exact.proofs.Calls.{passes, fails, handed}
+use Rattle.checks.proofs.Lines.{lineOf, lines-clear, line-fault}
 use Rattle.checks.proofs.faults.range_fault.Statement.{statement}
 use Rattle.checks.proofs.faults.range_fault.Tie as tie
 
--- ---- the intervals' lines
-
-abbrev lineOf : Hour → ℕ → Verdict
-lineOf h i = unless (intervalInRange (interval h i)) 2 (i + 4)
-
-module _ (h : Hour) (i : ℕ) (before : (k : ℕ) → k < i → intervalInRange (interval h k) ≡ true) where
-  line-clear : (k : ℕ) → k < i → lineOf h k ≡ clear
-  line-clear k u = rw (before k u)
-
-  lines-clear : i ≡ h .n → firstOf (lineOf h) (h .n) ≡ clear
-  lines-clear e = rw (← e) (clear-first (lineOf h) i line-clear)
-
-  line-fault : i < h .n → intervalInRange (interval h i) ≡ false → firstOf (lineOf h) (h .n) ≡ fault 2 (i + 4)
-  line-fault u e = fault-first (lineOf h) (h .n) 2 (i + 4) (record { at = i; below = u; before = line-clear; gives = rw e })
+abbrev inRange : Hour → ℕ → Bool
+inRange h i = intervalInRange (interval h i)
 
 abbrev Inv-loop : tie.InvT-loop
 Inv-loop n iv i₀ i = (i ≤ n) × ((k : ℕ) → k < i → intervalInRange (getD iv k blank) ≡ true)
@@ -79,7 +67,7 @@ returns-3 c =
     rw (passes (joined (one .before)) (one .if1 .left), passes (two .before .curve-in-range .ensures) (two .if2 .left), fails (c .before .curve-in-range2 .ensures) (c .if3 .taken))
 
 -- what is left of the check when those are in range
-rest : (c : tie.After-iv Inv-loop μ-loop) → range (c .before .before .before .before .before .before .before .before .before .before .args .h) ≡ firstOf (lineOf (c .before .before .before .before .before .before .before .before .before .before .args .h)) (c .before .before .before .before .before .before .before .before .before .before .args .h .n)
+rest : (c : tie.After-iv Inv-loop μ-loop) → range (c .before .before .before .before .before .before .before .before .before .before .args .h) ≡ firstOf (lineOf (inRange (c .before .before .before .before .before .before .before .before .before .before .args .h)) 4) (c .before .before .before .before .before .before .before .before .before .before .args .h .n)
 unfolding range
 rest c =
     let three = c .before in
@@ -110,7 +98,8 @@ add-t19 c = omega (arith, small (c .before .before .before))
 returns-4 : tie.Need-returns-4 Inv-loop μ-loop
 returns-4 c =
     let l = c .before .before .before .before in
-    let line = line-fault (l .before .before .before .before .before .before .before .before .before .before .before .args .h) (l .loop .i) (l .loop .inv .1) (c .before .before .before .loop-test .taken) (fails (c .before .interval-in-range .ensures) (c .if4 .taken)) in
+    let h = l .before .before .before .before .before .before .before .before .before .before .before .args .h in
+    let line = line-fault (inRange h) 4 (l .loop .i) (l .loop .inv .1) (h .n) (c .before .before .before .loop-test .taken) (fails (c .before .interval-in-range .ensures) (c .if4 .taken)) in
     sym (rest (l .before) ∙ line)
 
 add-i : tie.Need-add-i Inv-loop μ-loop
@@ -126,7 +115,8 @@ loop-again c =
 returns-5 : tie.Need-returns-5 Inv-loop μ-loop
 returns-5 c =
     let l = c .before in
-    sym (rest (l .before) ∙ lines-clear (l .before .before .before .before .before .before .before .before .before .before .before .args .h) (l .loop .i) (l .loop .inv .1) (omega arith))
+    let h = l .before .before .before .before .before .before .before .before .before .before .before .args .h in
+    sym (rest (l .before) ∙ lines-clear (inRange h) 4 (l .loop .i) (l .loop .inv .1) (h .n) (omega arith))
 
 pub range-fault-spec : {M : Type 1} → statement M
 range-fault-spec =

@@ -4,14 +4,14 @@ use Prim.Native.Nat.{ℕ, _-_, _<_, _≤_}
 use native.Mathlib.Omega.{arith}
 use borrow.Author.Needs.{needs}
 use lib.ListN.{getD}
-use lib.IntN.{ℤ, pos}
-use Rattle.exact.specs.Whole.{Within, eqZ, sumTo}
-use Rattle.exact.proofs.Range.{within-more}
-use Rattle.exact.proofs.Sums.{sum-none, sum-more, sum-within}
+use lib.IntN.{ℤ}
+use Rattle.exact.specs.Whole.{Within, sumTo}
+use Rattle.exact.proofs.Sums.{sum-none, sum-more}
 use Rattle.tariff.specs.declared.Hour.{Hour}
 use Rattle.tariff.specs.Reply.{clear}
 use Rattle.tariff.specs.Hour.{blank, interval, range, secondsSum}
 use Rattle.tariff.proofs.Ranges.{form-says, range-says, interval-fits}
+use Rattle.checks.proofs.Seconds.{one-more-fits}
 use Rattle.checks.proofs.faults.seconds_fault.Statement.{statement}
 use Rattle.checks.proofs.faults.seconds_fault.Tie as tie
 
@@ -44,9 +44,8 @@ seconds-plus-requires : tie.Need-seconds-plus-requires Inv-loop μ-loop
 seconds-plus-requires c κs =
     let s = c .before .before .before .before in
     let l = c .before .before .loop in
-    let each = each-fits (s .args .h) (s .pre .1) in
-    let sum = sum-within 900 (secondsOf (s .args .h)) (l .i) (λ k u. each k (omega arith)) in
-    (rw (l .inv .1) (within-more (omega (arith, small (c .before))) sum), each (l .i) (omega arith))
+    let h = s .args .h in
+    one-more-fits (secondsOf h) (h .n) (l .i) _ (form-says h (s .pre .0) .2) (each-fits h (s .pre .1)) (omega arith) (l .inv .1)
 
 add-i : tie.Need-add-i Inv-loop μ-loop
 add-i c = omega (arith, small (c .before .before))
@@ -59,22 +58,15 @@ loop-again c =
     let l = c .before .before .before .loop in
     (omega arith, c .seconds-plus .ensures ∙ rw (sum-more (secondsOf (c .before .before .before .before .before .args .h)) (l .i), l .inv .1))
 
-is-an-hour-requires : tie.Need-is-an-hour-requires Inv-loop μ-loop
-is-an-hour-requires c κs = search needs
-
-answer : (c : tie.After-is-an-hour Inv-loop μ-loop) → eqZ (sumTo (secondsOf (c .before .before .before .before .args .h)) (c .before .before .before .before .args .h .n)) (pos 3600) ≡ c .is-an-hour .result
-answer c =
-    let h = c .before .before .before .before .args .h in
-    let all : c .before .before .loop .i ≡ h .n = omega arith in
-    rw (← all, ← c .before .before .loop .inv .1) (sym (c .is-an-hour .ensures))
+sum-fault-requires : tie.Need-sum-fault-requires Inv-loop μ-loop
+sum-fault-requires c κs = search needs
 
 returns : tie.Need-returns Inv-loop μ-loop
 unfolding secondsSum
-returns c = rw (answer (c .before) ∙ c .if1 .taken)
-
-returns-2 : tie.Need-returns-2 Inv-loop μ-loop
-unfolding secondsSum
-returns-2 c = rw (answer (c .before) ∙ c .if1 .left)
+returns c =
+    let l = c .before .before .loop in
+    let all : l .i ≡ c .before .before .before .before .args .h .n = omega arith in
+    rw (← all, ← l .inv .1) (c .sum-fault .ensures)
 
 pub seconds-fault-spec : {M : Type 1} → statement M
 seconds-fault-spec =
@@ -89,6 +81,5 @@ seconds-fault-spec =
     add-i
     loop-less
     loop-again
-    is-an-hour-requires
-    returns
-    returns-2)
+    sum-fault-requires
+    returns)

@@ -1,15 +1,13 @@
--- `lies_in` tests both ends of the range.
+-- `lies_in` tests both ends of a range.
 use mathlib.Core.Path.{_≡_}
 use mathlib.Core.Bool.{Bool, true, false, not}
 use lib.Signed.{ltZ, leZ}
 use Rattle.exact.proofs.Bits.{held, lt-is}
 use Rattle.exact.proofs.Order.{le-not-lt}
-use Rattle.checks.proofs.ranges.lies_in.Statement.{statement}
-use Rattle.checks.proofs.ranges.lies_in.Tie as tie
-use Rattle.checks.proofs.ranges.lies_in.Reads as reads
-use Rattle.checks.proofs.ranges.lies_in.Lts as lts
+use Rattle.units.proofs.lies_in.Statement.{statement}
+use Rattle.units.proofs.lies_in.Tie as tie
 
-module _ (s : lts.Start reads.Pre reads.Post) (t : Bool) where
+module _ (s : tie.Start) (t : Bool) where
   low-test : ltZ (held (s .args .x)) (held (s .args .low)) ≡ t → leZ (s .args .low) (s .args .x) ≡ not t
   low-test e = rw (le-not-lt, lt-is (s .args .x) (s .args .low) (s .fits .x .sfits) (s .fits .low .sfits) t e)
 

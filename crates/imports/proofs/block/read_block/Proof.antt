@@ -1,0 +1,99 @@
+-- `block::read_block` meets its contract: line 1, and then the interval lines.
+use mathlib.Core.Path.{_≡_, refl, _∙_}
+use mathlib.Core.List.{List}
+use Prim.Native.Nat.{ℕ}
+use native.Mathlib.Omega.{arith}
+use borrow.Author.Needs.{needs}
+use Rattle.text.specs.declared.Next.the-variants.{At}
+use Rattle.lines.specs.Line.{lineAt}
+use Rattle.lines.proofs.Fill.{held-is}
+use Rattle.lines.proofs.Lines.{FieldsRead, fields-read, line-is}
+use Rattle.imports.proofs.Blocks.{block-line1, block-row, block-read}
+use Rattle.imports.proofs.block.read_block.Statement.{statement}
+use Rattle.imports.proofs.block.read_block.Tie as tie
+
+-- line 1, and the place behind it
+abbrev text : tie.After-line-end → List ℕ
+text c = c .before .before .before .before .args .s .now
+
+abbrev begins : tie.After-line-end → ℕ
+begins c = c .before .before .before .before .args .at
+
+fields1 : (c : tie.After-line-end) → FieldsRead 38 3 (text c) (begins c) (c .before .before .fields-at .result)
+fields1 c = fields-read 38 3 _ (begins c) _ refl (c .before .before .fields-at .ensures)
+
+line1 : (c : tie.After-line-end) → lineAt 38 3 (text c) (begins c) ≡ c .line-end .result
+line1 c = line-is 38 3 _ (begins c) _ _ (fields1 c .next) (c .line-end .ensures)
+
+module _ (c : tie.After-known-told) where
+  abbrev in1 : tie.After-line-end
+  in1 = c .before .before .before
+
+  line2-at : lineAt 38 3 (text in1) (begins in1) ≡ At (c .before .next .given .0 .0)
+  line2-at = line1 in1 ∙ c .before .next .given .1
+
+fields-at-requires : tie.Need-fields-at-requires
+fields-at-requires c κs = search needs
+
+line-end-requires : tie.Need-line-end-requires
+line-end-requires c κs = search needs
+
+enum-known-next : tie.Need-enum-known-next
+enum-known-next c = search needs
+
+enum-told : tie.Need-enum-told
+enum-told c = search needs
+
+broken-block-requires : tie.Need-broken-block-requires
+broken-block-requires c κs = search needs
+
+returns : tie.Need-returns
+returns c = block-line1 _ _ _ (line1 (c .before .before .before) ∙ c .before .enum-told .given .1) (c .broken-block .ensures)
+
+rows-at-requires : tie.Need-rows-at-requires
+rows-at-requires c κs = search needs
+
+broken-block-requires-2 : tie.Need-broken-block-requires-2
+broken-block-requires-2 c κs = search needs
+
+returns-2 : tie.Need-returns-2
+returns-2 c =
+    let r = c .before .before in
+    block-row _ _ _ (line2-at (r .before)) _ (r .rows-at .ensures) _ (c .before .if1 .taken) (c .broken-block2 .ensures)
+
+array-copy-out-t15 : tie.Need-array-copy-out-t15
+array-copy-out-t15 c = search needs
+
+array-copy-out-t18 : tie.Need-array-copy-out-t18
+array-copy-out-t18 c = search needs
+
+array-copy-out-t22 : tie.Need-array-copy-out-t22
+array-copy-out-t22 c = search needs
+
+returns-3 : tie.Need-returns-3
+returns-3 c =
+    let e = c .before .before .before .before in
+    let r = e .before in
+    let v = fields1 (in1 (r .before)) .values in
+    block-read _ _ _ (line2-at (r .before)) _ (r .rows-at .ensures) _ _ _ (e .if1 .left)
+    (held-is _ _ (c .before .before .t15 .given) (v 0 (omega arith)))
+    (held-is _ _ (c .before .t18 .given) (v 1 (omega arith)))
+    (held-is _ _ (c .t22 .given) (v 2 (omega arith)))
+
+pub read-block-spec : {M : Type 1} → statement M
+read-block-spec =
+    tie.close
+    (tie.spec
+    fields-at-requires
+    line-end-requires
+    enum-known-next
+    enum-told
+    broken-block-requires
+    returns
+    rows-at-requires
+    broken-block-requires-2
+    returns-2
+    array-copy-out-t15
+    array-copy-out-t18
+    array-copy-out-t22
+    returns-3)

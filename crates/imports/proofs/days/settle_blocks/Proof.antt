@@ -1,0 +1,124 @@
+-- `days::settle_blocks` meets its contract. Before block k the code holds the sum of those before k and the place behind them.
+use mathlib.Core.Path.{_≡_, sym, ap, _∙_}
+use Prim.Native.Nat.{_*_, _-_, _≤_}
+use native.Mathlib.Omega.{arith}
+use lib.IntN.{ℤ}
+use lib.ListN.{drop}
+use borrow.Author.Needs.{needs}
+use mir.Syntax.{w64}
+use mir.Val.{toZ}
+use Rattle.exact.proofs.Bits.{held}
+use Rattle.exact.proofs.Calls.{handed}
+use Rattle.exact.proofs.Range.{within-more}
+use Rattle.tariff.specs.Import.{partsTo, settled, worthTold}
+use Rattle.lines.proofs.Pieces.{piece-behind}
+use Rattle.imports.specs.Import.{partAt}
+use Rattle.imports.proofs.Added.{Added, none-added, here-within, one-added, one-refused, all-surplus, all-paid}
+use Rattle.imports.proofs.days.settle_blocks.Statement.{statement}
+use Rattle.imports.proofs.days.settle_blocks.Tie as tie
+
+abbrev Inv-loop : tie.InvT-loop
+Inv-loop s at name cts hours sum₀ i₀ k₀ sum i k = (k ≤ hours) × Added (toZ w64 cts) s at (sum .0) i k
+
+abbrev μ-loop : tie.MeasureT-loop
+μ-loop s at name cts hours sum₀ i₀ k₀ sum i k = hours - k
+
+-- the day's blocks by the mark that is handed over
+day-is : (s : tie.Start Inv-loop μ-loop) → partsTo (partAt (held (s .args .cts)) (drop (s .args .at) (s .args .s .now))) (s .args .hours) ≡ partsTo (partAt (s .args .cts) (drop (s .args .at) (s .args .s .now))) (s .args .hours)
+day-is s = ap (λ (cts : ℤ). partsTo (partAt cts (drop (s .args .at) (s .args .s .now))) (s .args .hours)) (handed (s .args .cts) (s .fits .cts .sfits))
+
+loop-holds : tie.Need-loop-holds Inv-loop μ-loop
+loop-holds c = (omega arith, none-added _ _ _ (c .before .pre .0))
+
+settle-block-requires : tie.Need-settle-block-requires Inv-loop μ-loop
+settle-block-requires c κs = c .before .loop .inv .1 .inside
+
+enum-known-answer : tie.Need-enum-known-answer Inv-loop μ-loop
+enum-known-answer c = search needs
+
+enum-told : tie.Need-enum-told Inv-loop μ-loop
+enum-told c = search needs
+
+handed-on-requires : tie.Need-handed-on-requires Inv-loop μ-loop
+handed-on-requires c κs = search needs
+
+returns : tie.Need-returns Inv-loop μ-loop
+returns c =
+    let b = c .before .before .before in
+    let L = b .before .before .loop in
+    let s = b .before .before .before .before in
+    let told = ap worthTold (c .before .enum-told .given .1) in
+    c .handed-on .ensures _ _ told
+    ∙ sym (ap (settled _ _) (sym (day-is s) ∙ one-refused _ _ _ _ _ _ (L .inv .1) _ (b .settle-block .ensures) _ _ _ (b .before .loop-test .taken) told))
+
+plus-requires : tie.Need-plus-requires Inv-loop μ-loop
+plus-requires c κs =
+    let b = c .before .before .before in
+    let L = b .before .before .loop in
+    let s = b .before .before .before .before in
+    let few = s .pre .1 in
+    let fits : 108000000000000000 * L .k ≤ 4000000000000000000 = omega arith in (
+      within-more fits (L .inv .1 .within),
+      here-within _ _ _ _ _ _ (L .inv .1) _ (b .settle-block .ensures) _ (ap worthTold (c .before .answer .given .1)),
+    )
+
+piece-after-requires : tie.Need-piece-after-requires Inv-loop μ-loop
+piece-after-requires c κs = search needs
+
+add-k : tie.Need-add-k Inv-loop μ-loop
+add-k c = search needs
+
+loop-less : tie.Need-loop-less Inv-loop μ-loop
+loop-less c = search needs
+
+loop-again : tie.Need-loop-again Inv-loop μ-loop
+loop-again c =
+    let k = c .before .before in
+    let b = k .before .before .before in
+    let L = b .before .before .loop in (
+      omega arith,
+      rw (c .before .plus .ensures)
+          (one-added _ _ _ _ _ _ (L .inv .1) _ (b .settle-block .ensures) _ _ (ap worthTold (k .before .answer .given .1)) (piece-behind _ _ _ (c .piece-after .ensures) .0) (piece-behind _ _ _ (c .piece-after .ensures) .1)),
+    )
+
+-- after the last block
+all : (c : tie.After-loop Inv-loop μ-loop) → c .before .loop .k ≡ c .before .before .before .args .hours
+all c = omega arith
+
+returns-2 : tie.Need-returns-2 Inv-loop μ-loop
+returns-2 c =
+    let L = c .before .before .loop in
+    let s = c .before .before .before .before in
+    all-surplus _ _ _ _ _ _ (rw (all (c .before)) at (L .inv .1)) _ (c .if1 .taken) ∙ ap (settled _ _) (day-is s)
+
+cents-of-requires : tie.Need-cents-of-requires Inv-loop μ-loop
+cents-of-requires c κs = search needs
+
+returns-3 : tie.Need-returns-3 Inv-loop μ-loop
+returns-3 c =
+    let k = c .before .before in
+    let L = k .before .loop in
+    let s = k .before .before .before in
+    rw (handed (s .args .name) (s .fits .name .sfits))
+    (all-paid _ _ _ _ _ _ (rw (all k) at (L .inv .1)) _ _ (c .before .if1 .left) (c .cents-of .ensures) ∙ ap (settled _ _) (day-is s))
+
+pub settle-blocks-spec : {M : Type 1} → statement M
+settle-blocks-spec =
+    tie.close
+    (tie.spec
+    Inv-loop
+    μ-loop
+    loop-holds
+    settle-block-requires
+    enum-known-answer
+    enum-told
+    handed-on-requires
+    returns
+    plus-requires
+    piece-after-requires
+    add-k
+    loop-less
+    loop-again
+    returns-2
+    cents-of-requires
+    returns-3)

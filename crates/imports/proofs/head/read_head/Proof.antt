@@ -1,0 +1,148 @@
+-- `head::read_head` meets its contract: the two lines, and then their ranges.
+use mathlib.Core.Path.{_≡_, refl, sym, ap₂, _∙_}
+use mathlib.Core.Bool.{_&&_}
+use mathlib.Core.List.{List}
+use Prim.Native.Nat.{ℕ}
+use native.Mathlib.Omega.{arith}
+use lib.IntN.{ℤ}
+use borrow.Author.Needs.{needs}
+use Rattle.exact.proofs.Calls.{passes, fails}
+use Rattle.tariff.specs.Import.{isMark, isName}
+use Rattle.text.specs.declared.Next.the-variants.{At}
+use Rattle.lines.specs.Line.{lineFeed, lineAt}
+use Rattle.lines.proofs.Fill.{held-is}
+use Rattle.lines.proofs.Lines.{FieldsRead, fields-read, line-is}
+use Rattle.imports.specs.Import.{nameIn, ctsIn}
+use Rattle.imports.proofs.Heads.{head-line1, head-line2, head-range, head-said}
+use Rattle.imports.proofs.head.read_head.Statement.{statement}
+use Rattle.imports.proofs.head.read_head.Tie as tie
+
+-- line 1, the place behind it, and the place behind the empty line
+abbrev text : tie.After-line-end → List ℕ
+text c = c .before .before .before .before .args .s .now
+
+fields1 : (c : tie.After-line-end) → FieldsRead 36 2 (text c) 0 (c .before .before .fields-at .result)
+fields1 c = fields-read 36 2 _ 0 _ refl (c .before .before .fields-at .ensures)
+
+line1 : (c : tie.After-line-end) → lineAt 36 2 (text c) 0 ≡ c .line-end .result
+line1 c = line-is 36 2 _ 0 _ _ (fields1 c .next) (c .line-end .ensures)
+
+module _ (c : tie.After-known-told) where
+  abbrev in1 : tie.After-line-end
+  in1 = c .before .before .before
+
+  abbrev second : ℕ
+  second = c .before .second .given .0 .0
+
+  line2-at : lineAt 36 2 (text in1) 0 ≡ At second
+  line2-at = line1 in1 ∙ c .before .second .given .1
+
+module _ (c : tie.After-known-told2) where
+  abbrev in2 : tie.After-known-told
+  in2 = c .before .before .before .before
+
+  abbrev next : ℕ
+  next = c .before .next .given .0 .0
+
+  body-at : lineFeed (text (in1 in2)) (second in2) ≡ At next
+  body-at = sym (c .before .before .before .line-end2 .ensures) ∙ c .before .next .given .1
+
+ranges : (c : tie.After-in-range)
+    → c .in-range .result ≡ (isName (nameIn (text (in1 (in2 (c .before .before .before))))) && isMark (ctsIn (text (in1 (in2 (c .before .before .before))))))
+ranges c =
+    let v = fields1 (in1 (in2 (c .before .before .before))) .values in
+    c .in-range .ensures
+    ∙ ap₂ (λ (name cts : ℤ). isName name && isMark cts)
+    (held-is _ _ (c .before .before .in-range-arg .given) (v 0 (omega arith)))
+    (held-is _ _ (c .before .in-range-arg2 .given) (v 1 (omega arith)))
+
+fields-at-requires : tie.Need-fields-at-requires
+fields-at-requires c κs = search needs
+
+line-end-requires : tie.Need-line-end-requires
+line-end-requires c κs = search needs
+
+enum-known-second : tie.Need-enum-known-second
+enum-known-second c = search needs
+
+enum-told : tie.Need-enum-told
+enum-told c = search needs
+
+refused-requires : tie.Need-refused-requires
+refused-requires c κs = search needs
+
+returns : tie.Need-returns
+returns c = head-line1 _ _ (line1 (c .before .before .before) ∙ c .before .enum-told .given .1) (c .refused .ensures)
+
+line-end-requires-2 : tie.Need-line-end-requires-2
+line-end-requires-2 c κs = search needs
+
+enum-known-next : tie.Need-enum-known-next
+enum-known-next c = search needs
+
+enum-told-2 : tie.Need-enum-told-2
+enum-told-2 c = search needs
+
+refused-requires-2 : tie.Need-refused-requires-2
+refused-requires-2 c κs = search needs
+
+returns-2 : tie.Need-returns-2
+returns-2 c =
+    let k = c .before .before .before in
+    head-line2 _ _ (line2-at (k .before)) _ (sym (k .line-end2 .ensures) ∙ c .before .enum-told2 .given .1) (c .refused2 .ensures)
+
+array-copy-out-in-range : tie.Need-array-copy-out-in-range
+array-copy-out-in-range c = search needs
+
+array-copy-out-in-range-2 : tie.Need-array-copy-out-in-range-2
+array-copy-out-in-range-2 c = search needs
+
+in-range-requires : tie.Need-in-range-requires
+in-range-requires c κs = search needs
+
+refused-requires-3 : tie.Need-refused-requires-3
+refused-requires-3 c κs = search needs
+
+returns-3 : tie.Need-returns-3
+returns-3 c =
+    let r = c .before .before in
+    let k = r .before .before .before in
+    head-range _ _ (line2-at (in2 k)) _ (body-at k) _ (fails (ranges r) (c .before .if1 .taken)) (c .refused3 .ensures)
+
+array-copy-out-t15 : tie.Need-array-copy-out-t15
+array-copy-out-t15 c = search needs
+
+array-copy-out-t18 : tie.Need-array-copy-out-t18
+array-copy-out-t18 c = search needs
+
+returns-4 : tie.Need-returns-4
+returns-4 c =
+    let r = c .before .before .before in
+    let k = r .before .before .before in
+    let v = fields1 (in1 (in2 k)) .values in
+    head-said _ _ (line2-at (in2 k)) _ (body-at k) _ _ (passes (ranges r) (c .before .before .if1 .left))
+    (held-is _ _ (c .before .t15 .given) (v 0 (omega arith))) (held-is _ _ (c .t18 .given) (v 1 (omega arith)))
+
+pub read-head-spec : {M : Type 1} → statement M
+read-head-spec =
+    tie.close
+    (tie.spec
+    fields-at-requires
+    line-end-requires
+    enum-known-second
+    enum-told
+    refused-requires
+    returns
+    line-end-requires-2
+    enum-known-next
+    enum-told-2
+    refused-requires-2
+    returns-2
+    array-copy-out-in-range
+    array-copy-out-in-range-2
+    in-range-requires
+    refused-requires-3
+    returns-3
+    array-copy-out-t15
+    array-copy-out-t18
+    returns-4)

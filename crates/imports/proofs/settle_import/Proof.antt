@@ -1,0 +1,55 @@
+-- `settle_import` meets its contract: the first two lines refuse the whole, or the blocks behind them settle it.
+use mathlib.Core.Path.{_≡_}
+use native.Mathlib.Omega.{arith}
+use borrow.Author.Needs.{needs}
+use Rattle.tariff.specs.Reply.{clear}
+use Rattle.tariff.proofs.Answers.{found-told}
+use Rattle.lines.proofs.Fill.{held-is}
+use Rattle.imports.specs.Import.{headFault}
+use Rattle.imports.proofs.Heads.{head-inside, head-refuses, head-passes}
+use Rattle.imports.proofs.settle_import.Statement.{statement}
+use Rattle.imports.proofs.settle_import.Tie as tie
+
+read-head-requires : tie.Need-read-head-requires
+read-head-requires c κs = search needs
+
+enum-known-found : tie.Need-enum-known-found
+enum-known-found c = search needs
+
+returns : tie.Need-returns
+returns c =
+    let h = c .before .before .before in
+    head-refuses 24 (h .before .before .args .s .now) _ _ (found-told (h .read-head .ensures .found) (c .before .found .given .1))
+
+enum-told : tie.Need-enum-told
+enum-told c = search needs
+
+-- where the first two lines have no fault
+sound : (c : tie.After-enum-told) → headFault (c .before .before .before .before .args .s .now) ≡ clear
+sound c = found-told (c .before .before .read-head .ensures .found) (c .enum-told .given .1)
+
+settle-blocks-requires : tie.Need-settle-blocks-requires
+settle-blocks-requires c κs =
+    let k = c .before .before in
+    let h = k .before .before in
+    (rw (h .read-head .ensures .next (sound k)) (head-inside (h .before .before .args .s .now)), omega arith)
+
+returns-2 : tie.Need-returns-2
+returns-2 c =
+    let k = c .before .before .before in
+    let h = k .before .before in
+    let e = h .read-head .ensures in
+    let given = c .before .struct-told2 .given in
+    head-passes 24 (h .before .before .args .s .now) _ _ _ _ (sound k)
+    (held-is _ _ (given .1 .0 .1) (e .name (sound k))) (held-is _ _ (given .1 .1 .0 .1) (e .cts (sound k))) (e .next (sound k)) (c .settle-blocks .ensures)
+
+pub settle-import-spec : {M : Type 1} → statement M
+settle-import-spec =
+    tie.close
+    (tie.spec
+    read-head-requires
+    enum-known-found
+    returns
+    enum-told
+    settle-blocks-requires
+    returns-2)

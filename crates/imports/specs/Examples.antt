@@ -1,0 +1,170 @@
+-- Texts of imports and what they are read as.
+use mathlib.Core.Path.{_≡_, refl}
+use mathlib.Core.List.{List, [], _∷_, _++_}
+use Prim.Native.Nat.{ℕ}
+use lib.ListN.{replicate}
+use lib.IntN.{pos, negsuc}
+use Rattle.exact.specs.Whole.{maxℤ, upTo, sumTo}
+use Rattle.tariff.specs.declared.ImportHour.{ImportHour}
+use Rattle.tariff.specs.Units.{kw, price, seconds, centsOf}
+use Rattle.tariff.specs.Reply.{clear, fault, firstOf}
+use Rattle.tariff.specs.Import.{blankCurtailed, curtailedInRange, importForm, importRange, importOrder, importSeconds, counts, importGrains, importSum, importPart, partsTo, outside, inHour, ImportReply, paid, refused}
+use Rattle.text.specs.Text.{bytes, keyAt}
+use Rattle.text.specs.Number.{digitAt, moreDigits, naturalAt, numberAt}
+use Rattle.lines.specs.Line.{valueAt, fieldAt, afterFields, valueIn, lineAt, closes}
+use Rattle.lines.specs.Rows.{rowPlace, rowIn, counted, brokenRow, rowsAt}
+use Rattle.lines.specs.Cut.{emptyIn, behind}
+use Rattle.lines.specs.Pieces.{restAfter}
+use Rattle.imports.specs.Import.{headPlace, nameIn, ctsIn, headFault, importBody, ImportBlock, broken, read, importBlockAt, partAt, importReply}
+
+-- what a proof by computation opens
+reading : List ℕ → ImportBlock
+unfolding importBlockAt headFault headPlace rowsAt rowIn rowPlace closes lineAt valueIn afterFields fieldAt valueAt keyAt numberAt naturalAt moreDigits digitAt upTo
+reading s = importBlockAt s 0
+
+-- ---- the first two lines
+
+abbrev head : List ℕ
+head = bytes "import=77 cts=0\n\n"
+
+head-clear : headFault (head ++ bytes "hour=0") ≡ clear
+unfolding reading
+head-clear = refl
+
+head-name : nameIn head ≡ pos 77
+unfolding reading
+head-name = refl
+
+head-cts : ctsIn head ≡ pos 0
+unfolding reading
+head-cts = refl
+
+body-behind : importBody (head ++ bytes "hour=0") ≡ bytes "hour=0"
+unfolding reading
+body-behind = refl
+
+no-text : headFault [] ≡ fault 1 1
+unfolding reading
+no-text = refl
+
+no-mark : headFault (bytes "import=77\n\n") ≡ fault 1 1
+unfolding reading
+no-mark = refl
+
+no-empty-line : headFault (bytes "import=77 cts=0\nhour=0") ≡ fault 1 2
+unfolding reading
+no-empty-line = refl
+
+-- FORM comes before RANGE: the two lines are one header
+form-first : headFault (bytes "import=0 cts=0\n") ≡ fault 1 2
+unfolding reading
+form-first = refl
+
+no-name : headFault (bytes "import=0 cts=0\n\n") ≡ fault 2 1
+unfolding reading
+no-name = refl
+
+odd-mark : headFault (bytes "import=77 cts=2\n\n") ≡ fault 2 1
+unfolding reading
+odd-mark = refl
+
+below-mark : headFault (bytes "import=77 cts=-1\n\n") ≡ fault 2 1
+unfolding reading
+below-mark = refl
+
+-- ---- a block
+
+abbrev line1 : List ℕ
+line1 = bytes "hour=0 den=100000 dec=-200\n"
+
+abbrev interval : List ℕ
+interval = bytes "s=900 cut=1 prof=100000 rten=60000 lbmp=5000 bid=3000 def=4000\n"
+
+abbrev listed : ImportHour
+listed =
+    record {
+      hour = pos 0;
+      den = kw (pos 100000);
+      dec = price (negsuc 199);
+      n = 1;
+      iv =
+          record { s = seconds (pos 900); cut = pos 1; prof = kw (pos 100000); rten = kw (pos 60000); lbmp = price (pos 5000); bid = price (pos 3000); def = price (pos 4000) }
+          ∷ replicate 29 blankCurtailed;
+    }
+
+block-reads : importBlockAt (line1 ++ interval) 0 ≡ read listed
+unfolding reading
+block-reads = refl
+
+-- what stands behind an empty line is not read
+closed-reads : importBlockAt (line1 ++ interval ++ bytes "\nhour=1") 0 ≡ read listed
+unfolding reading
+closed-reads = refl
+
+empty : importBlockAt [] 0 ≡ broken 1
+unfolding reading
+empty = refl
+
+empty-line : importBlockAt (bytes "\nhour=0") 0 ≡ broken 1
+unfolding reading
+empty-line = refl
+
+-- a last line without its line feed is not as printed
+last-line-open : importBlockAt (line1 ++ bytes "s=900 cut=1 prof=100000 rten=60000 lbmp=5000 bid=3000 def=4000") 0 ≡ broken 2
+unfolding reading
+last-line-open = refl
+
+bad-behind-good : importBlockAt (line1 ++ interval ++ bytes "s=900") 0 ≡ broken 3
+unfolding reading
+bad-behind-good = refl
+
+-- after 29 interval lines one more is the last: the next is line 32, whatever it holds
+thirty-lines : rowsAt 41 7 2 1 interval 0 29 ≡ counted 30
+unfolding reading
+thirty-lines = refl
+
+line-too-many : rowsAt 41 7 2 1 (interval ++ bytes "?") 0 29 ≡ brokenRow 32
+unfolding reading
+line-too-many = refl
+
+-- ---- the reply to a day of one hour or of two: four quarters of 40,000 kW at 5,000 cents per MWh are 720,000,000,000 grains
+
+replying : List ℕ → ImportReply
+unfolding reading importReply partAt restAfter behind emptyIn partsTo importPart importForm importRange importOrder importSeconds curtailedInRange firstOf importSum importGrains counts maxℤ sumTo centsOf
+replying s = importReply 1 s
+
+abbrev block : List ℕ
+block = line1 ++ interval ++ interval ++ interval ++ interval
+
+pays : importReply 1 (head ++ block) ≡ paid (pos 77) (pos 720000000000) (pos 200000)
+unfolding replying
+pays = refl
+
+-- a line feed behind the empty line of the last block is a surplus, the empty line itself is none
+empty-line-closes : importReply 1 (head ++ block ++ bytes "\n") ≡ paid (pos 77) (pos 720000000000) (pos 200000)
+unfolding replying
+empty-line-closes = refl
+
+surplus : importReply 1 (head ++ block ++ bytes "\n\n") ≡ refused 3 outside 0
+unfolding replying
+surplus = refl
+
+-- an absent block is an empty block
+absent : importReply 2 (head ++ block) ≡ refused 1 (inHour 1) 1
+unfolding replying
+absent = refl
+
+-- ORDER: block 1 says hour 0
+twice : importReply 2 (head ++ block ++ bytes "\n" ++ block) ≡ refused 3 (inHour 1) 1
+unfolding replying
+twice = refl
+
+-- SECONDS in block 0 comes before FORM in block 1
+first-block-first : importReply 2 (head ++ line1 ++ interval ++ bytes "\n?") ≡ refused 5 (inHour 0) 0
+unfolding replying
+first-block-first = refl
+
+-- `cts=1` goes through all checks and pays 0
+cts-pays-nothing : importReply 1 (bytes "import=77 cts=1\n\n" ++ block) ≡ paid (pos 77) (pos 0) (pos 0)
+unfolding replying
+cts-pays-nothing = refl

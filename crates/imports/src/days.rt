@@ -1,0 +1,71 @@
+// The blocks of an import's day, one after the other, up to the first that is refused.
+ghost use mathlib.Core.Path.{_≡_};
+ghost use Prim.Native.Nat.{ℕ, _≤_};
+ghost use lib.IntN.{_+ℤ_};
+ghost use lib.ListN.{length, drop};
+ghost use Rattle.exact.specs.Whole.{Within};
+ghost use Rattle.tariff.specs.Import.{stopped, partsTo, inHour, refused, settled, worthTold, importTold};
+ghost use Rattle.lines.specs.Pieces.{restAfter, isSome};
+ghost use Rattle.imports.specs.Import.{importBlockAt, partFrom, partAt};
+use crate::block;
+use tariff::Check;
+use tariff::Grains;
+use tariff::ImportAnswer;
+use tariff::ImportFault;
+use tariff::Worth;
+
+// What the block that begins at a place is worth, as block k of its day.
+pub fn settle_block(s: &[u8], at: usize, cts: i64, k: usize) -> Worth
+    requires { ⌜ at ≤ length (now s) ⌝ }
+    ensures { λ r. ⌜ worthTold r ≡ partFrom (importBlockAt (drop at (now (s .entry))) 0) cts k ⌝ }
+{
+    let rest = &s[at..];
+    let read = block::read_block(rest, 0);
+    let broken = read.broken;
+    if broken != 0 {
+        return Worth::Refused(Check::Form(broken));
+    }
+    let hour = read.hour;
+    intervals::import_part(hour, cts, k)
+}
+
+// The day's sum with a block's part more.
+pub fn plus(sum: Grains, part: Grains) -> Grains
+    requires { ⌜ Within 4000000000000000000 (sum .0) × Within 108000000000000000 (part .0) ⌝ }
+    ensures { λ r. ⌜ r .0 ≡ sum .0 +ℤ part .0 ⌝ }
+{
+    Grains(sum.0 + part.0)
+}
+
+// The refusal of block k, handed on with its hour. What is worth a part is never handed on.
+pub fn handed_on(answer: Worth, k: usize) -> ImportAnswer
+    ensures { λ r. ⌜ ((number place : ℕ) → worthTold answer ≡ stopped number place → importTold r ≡ refused number (inHour k) place) ⌝ }
+{
+    match answer {
+        Worth::Refused(check) => ImportAnswer::Refused(ImportFault::Block(k, check)),
+        Worth::Part(_) => ImportAnswer::Refused(ImportFault::Surplus),
+    }
+}
+
+// The first `hours` blocks from a place on.
+pub fn settle_blocks(s: &[u8], at: usize, name: i64, cts: i64, hours: usize) -> ImportAnswer
+    requires { ⌜ (at ≤ length (now s)) × (hours ≤ 24) ⌝ }
+    ensures { λ r. ⌜ importTold r ≡ settled name (isSome (restAfter hours (drop at (now (s .entry))))) (partsTo (partAt cts (drop at (now (s .entry)))) hours) ⌝ }
+{
+    let mut sum = Grains(0);
+    let mut i = at;
+    let mut k: usize = 0;
+    while k < hours {
+        let answer = settle_block(s, i, cts, k);
+        let Worth::Part(grains) = answer else {
+            return handed_on(answer, k);
+        };
+        sum = plus(sum, grains);
+        i = lines::piece_after(s, i);
+        k += 1;
+    }
+    if i < s.len() {
+        return ImportAnswer::Refused(ImportFault::Surplus);
+    }
+    ImportAnswer::Paid(name, sum, units::cents_of(sum))
+}

@@ -1,0 +1,73 @@
+-- `curtailed::curtailed_part` gives what a counting interval gives, and its product fits.
+use mathlib.Core.Path.{_≡_, _∙_, ap}
+use mathlib.Core.Bool.{true}
+use borrow.Author.Needs.{needs}
+use lib.IntN.{ℤ, pos, _-ℤ_, _*ℤ_, *ℤ-comm}
+use Rattle.exact.specs.Whole.{maxℤ}
+use Rattle.exact.proofs.Calls.{passes, fails, handed}
+use Rattle.exact.proofs.Range.{within-less, within-max, within-zero}
+use Rattle.tariff.specs.declared.Curtailed.{Curtailed}
+use Rattle.tariff.specs.declared.ImportHour.{ImportHour}
+use Rattle.tariff.specs.Units.{grainsOf}
+use Rattle.tariff.specs.Import.{counts, importGrains}
+use Rattle.intervals.proofs.curtailed.curtailed_part.Statement.{statement}
+use Rattle.intervals.proofs.curtailed.curtailed_part.Tie as tie
+
+-- the grains of an interval that counts, its kilowatts first
+counting : (cts : ℤ) (h : ImportHour) (v : Curtailed) → counts cts h v ≡ true
+    → grainsOf (h .den .0 -ℤ v .rten .0) (v .lbmp .0 -ℤ maxℤ (h .dec .0) (pos 0)) (v .s .0) ≡ importGrains cts h v
+unfolding importGrains
+counting cts h v e =
+    let gap = h .den .0 -ℤ v .rten .0 in
+    let gain = v .lbmp .0 -ℤ maxℤ (h .dec .0) (pos 0) in
+    rw e (ap (λ (z : ℤ). z *ℤ v .s .0) (*ℤ-comm gap gain))
+
+is-counted-requires : tie.Need-is-counted-requires
+is-counted-requires c κs = search needs
+
+-- the call's answer, in an hour with this schedule
+counted : (c : tie.After-is-counted) (h : ImportHour) → h .den ≡ c .before .args .den → c .is-counted .result ≡ counts (c .before .args .cts) h (c .before .args .v)
+counted c h den =
+    let a = c .before .args in
+    c .is-counted .ensures h den ∙ ap (λ (cts : ℤ). counts cts h (a .v)) (handed (a .cts) (c .before .fits .cts .sfits))
+
+returns : tie.Need-returns
+unfolding importGrains
+returns c h den dec = rw (fails (counted (c .before) h den) (c .if1 .taken))
+
+kw-less-requires : tie.Need-kw-less-requires
+kw-less-requires c κs = let p = c .before .before .pre in (p .0, p .2)
+
+price-or-zero-requires : tie.Need-price-or-zero-requires
+price-or-zero-requires c κs = search needs
+
+price-less-requires : tie.Need-price-less-requires
+price-less-requires c κs =
+    let p = c .before .before .before .before .pre in
+    (p .3, rw (c .price-or-zero .ensures) (within-max (p .1) (within-zero 1000000)))
+
+product-requires : tie.Need-product-requires
+product-requires c κs =
+    let p = c .before .before .before .before .before .pre in (
+      rw (c .before .before .kw-less .ensures) (within-less (p .0) (p .2)),
+      rw (c .price-less .ensures, c .before .price-or-zero .ensures) (within-less (p .3) (within-max (p .1) (within-zero 1000000))),
+      p .4,
+    )
+
+returns-2 : tie.Need-returns-2
+returns-2 c h den dec =
+    let s = c .before .before .before .before .before .before in
+    let holds = passes (counted (c .before .before .before .before .before) h den) (c .before .before .before .before .if1 .left) in
+    rw (← counting (s .args .cts) h (s .args .v) holds, den, dec) (cc)
+
+pub curtailed-part-spec : {M : Type 1} → statement M
+curtailed-part-spec =
+    tie.close
+    (tie.spec
+    is-counted-requires
+    returns
+    kw-less-requires
+    price-or-zero-requires
+    price-less-requires
+    product-requires
+    returns-2)

@@ -1,0 +1,53 @@
+-- `import_part` refuses by the first fault of its block, and otherwise gives its sum, or 0 where that is below 0.
+use mathlib.Core.Path.{_≡_}
+use borrow.Author.Needs.{needs}
+use Rattle.exact.proofs.Calls.{handed}
+use Rattle.tariff.specs.Reply.{clear}
+use Rattle.tariff.specs.Import.{importFault, importPart}
+use Rattle.tariff.proofs.Answers.{found-told}
+use Rattle.tariff.proofs.ImportRanges.{import-clear-says}
+use Rattle.intervals.proofs.import_part.Statement.{statement}
+use Rattle.intervals.proofs.import_part.Tie as tie
+
+import-fault-requires : tie.Need-import-fault-requires
+import-fault-requires c κs = search needs
+
+enum-known-fault : tie.Need-enum-known-fault
+enum-known-fault c = search needs
+
+returns : tie.Need-returns
+unfolding importPart
+returns c = rw (found-told (c .before .before .before .import-fault .ensures) (c .before .fault .given .1))
+
+enum-told : tie.Need-enum-told
+enum-told c = search needs
+
+-- where the block has no fault
+sound : (c : tie.After-enum-told) → importFault (c .before .before .before .args .h) (c .before .before .before .args .k) ≡ clear
+sound c = found-told (c .before .before .import-fault .ensures) (c .enum-told .given .1)
+
+curtailed-sum-requires : tie.Need-curtailed-sum-requires
+curtailed-sum-requires c κs =
+    let p = import-clear-says (c .before .before .before .args .h) (c .before .before .before .args .k) (sound c) in
+    (p .0, p .1)
+
+grains-or-zero-requires : tie.Need-grains-or-zero-requires
+grains-or-zero-requires c κs = search needs
+
+returns-2 : tie.Need-returns-2
+unfolding importPart
+returns-2 c =
+    let s = c .before .before .before .before .before in
+    rw (sound (c .before .before), c .grains-or-zero .ensures, c .before .curtailed-sum .ensures, handed (s .args .cts) (s .fits .cts .sfits))
+
+pub import-part-spec : {M : Type 1} → statement M
+import-part-spec =
+    tie.close
+    (tie.spec
+    import-fault-requires
+    enum-known-fault
+    returns
+    enum-told
+    curtailed-sum-requires
+    grains-or-zero-requires
+    returns-2)
