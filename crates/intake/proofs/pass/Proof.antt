@@ -1,0 +1,59 @@
+-- `pass` keeps of a long piece its empty line, behind a byte that no line can have.
+use mathlib.Core.Path.{_∙_}
+use native.Mathlib.Numerals.{add-one}
+use native.Mathlib.Omega.{arith}
+use borrow.Author.Needs.{needs}
+use lib.ListN.{length-set}
+use Rattle.intake.proofs.Step.{passed, cut, stepped, unmoved, add-two}
+use Rattle.intake.proofs.pass.Statement.{statement}
+use Rattle.intake.proofs.pass.Tie as tie
+
+slice-write-row : tie.Need-slice-write-row
+slice-write-row c = search needs
+
+add-row : tie.Need-add-row
+add-row c = search needs
+
+slice-write-row-2 : tie.Need-slice-write-row-2
+slice-write-row-2 c = simp length-set (omega arith)
+
+add-row-2 : tie.Need-add-row-2
+add-row-2 c = search needs
+
+slice-write-row-3 : tie.Need-slice-write-row-3
+slice-write-row-3 c = simp length-set (omega arith)
+
+add-closed-at : tie.Need-add-closed-at
+add-closed-at c = search needs
+
+closed-at-requires : tie.Need-closed-at-requires
+closed-at-requires c κs = search needs
+
+same-length : tie.Need-same-length
+same-length c = search needs
+
+returns : tie.Need-returns
+returns c =
+    let s = c .before .before .before in
+    let e = stepped (s .args .i) (s .args .b) (s .args .row .now) (s .pre .0) (cut (s .pre .1) (s .pre .2) (c .before .if1 .taken)) in
+    rw (add-one (s .args .i .n), add-two (s .args .i .n)) (c .closed-at .ensures ∙ e .0, e .1)
+
+returns-2 : tie.Need-returns-2
+returns-2 c =
+    let s = c .before .before in
+    unmoved (s .args .i) (s .args .b) (s .args .row .now) (s .pre .0) (passed (s .pre .1) (s .pre .2) (c .if1 .left))
+
+pub pass-spec : {M : Type 1} → statement M
+pass-spec =
+    tie.close
+    (tie.spec
+    slice-write-row
+    add-row
+    slice-write-row-2
+    add-row-2
+    slice-write-row-3
+    add-closed-at
+    closed-at-requires
+    same-length
+    returns
+    returns-2)

@@ -1,0 +1,56 @@
+-- A text of any length in bounded memory: of each piece, cut at the empty lines, a program keeps the first 16,384 bytes, which decide it,
+-- and its empty line; of what follows the last piece, one byte.
+use mathlib.Core.Bool.{Bool, true, false, _&&_}
+use mathlib.Core.List.{List, [], _∷_, _++_}
+use Prim.Native.Nat.{ℕ, zero, suc, _+_, _-_}
+use lib.Dec.{ltb, leb, eqb}
+use lib.ListN.{length, take, drop}
+use Rattle.exact.specs.Choice.{if_then_else_}
+use Rattle.intake.specs.declared.Intake.{Intake}
+
+-- an empty line closes a piece
+abbrev pub closing : Intake → ℕ → Bool
+closing i b = i .start && eqb b 10
+
+-- what is kept of the next byte. A piece that is cut short gets a byte that no line can have, so that its empty line is one
+unfoldable pub kept : Intake → ℕ → List ℕ
+kept i b =
+    if eqb (i .left) 0
+    then (if eqb (i .run) 0 then b ∷ [] else [])
+    else (if ltb (i .run) 16384 then b ∷ [] else (if closing i b then 120 ∷ 10 ∷ 10 ∷ [] else []))
+
+-- how far the text is then taken in
+unfoldable pub after : Intake → ℕ → Intake
+after i b =
+    let n = i .n + length (kept i b) in
+    if eqb (i .left) 0
+    then record { n = n; run = 1; start = i .start; left = 0 }
+    else
+    (if closing i b
+    then record { n = n; run = 0; start = true; left = i .left - 1 }
+    else record { n = n; run = (if ltb (i .run) 16384 then i .run + 1 else i .run); start = eqb b 10; left = i .left })
+
+-- what is kept of a whole text
+unfoldable pub keptOf : Intake → List ℕ → List ℕ
+keptOf i [] = []
+keptOf i (b ∷ t) = kept i b ++ keptOf (after i b) t
+
+-- ---- into a lent row: bytes at a place of it, where there is room for them
+
+abbrev pub placed : List ℕ → ℕ → List ℕ → List ℕ
+placed row n bytes = take n row ++ (bytes ++ drop (n + length bytes) row)
+
+abbrev pub hasRoom : List ℕ → Intake → Bool
+hasRoom row i = leb (i .n + 3) (length row)
+
+unfoldable pub afterAll : List ℕ → Intake → List ℕ → Intake
+afterAll row i [] = i
+afterAll row i (b ∷ t) = if hasRoom row i then afterAll row (after i b) t else i
+
+unfoldable pub rowAll : List ℕ → Intake → List ℕ → List ℕ
+rowAll row i [] = row
+rowAll row i (b ∷ t) = if hasRoom row i then rowAll (placed row (i .n) (kept i b)) (after i b) t else row
+
+-- a text of `pieces` at its beginning
+abbrev pub atFirst : ℕ → Intake
+atFirst pieces = record { n = 0; run = 0; start = true; left = pieces }

@@ -1,0 +1,2 @@
+-- What a program keeps of a text of any length.
+pub mod Intake

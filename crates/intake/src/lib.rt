@@ -1,0 +1,169 @@
+// Standard input of any length in bounded memory: what of a text decides its answers.
+ghost use mathlib.Core.Path.{_≡_};
+ghost use mathlib.Core.Bool.{true};
+ghost use Prim.Native.Nat.{_+_, _-_, _≤_};
+ghost use lib.ListN.{length};
+ghost use Rattle.intake.specs.Intake.{after, kept, placed, afterAll, rowAll, atFirst};
+use libc::STDIN_FILENO;
+
+// How far a text is taken in: `n` bytes are kept, `run` of them of this piece, a line begins here or not, and `left` pieces are
+// still to close.
+pub struct Intake {
+    pub n: usize,
+    pub run: usize,
+    pub start: bool,
+    pub left: usize,
+}
+
+// A text of so many pieces at its beginning.
+pub fn at_first(pieces: usize) -> Intake
+    ensures { λ r. ⌜ r ≡ atFirst pieces ⌝ }
+{
+    Intake {
+        n: 0,
+        run: 0,
+        start: true,
+        left: pieces,
+    }
+}
+
+// A piece closes where `n` bytes are kept: the next one begins, with a line.
+fn closed_at(n: usize, left: usize) -> Intake
+    requires { ⌜ 1 ≤ left ⌝ }
+    ensures { λ r. ⌜ r ≡ record { n = n; run = 0; start = true; left = left - 1 } ⌝ }
+{
+    Intake {
+        n: n,
+        run: 0,
+        start: true,
+        left: left - 1,
+    }
+}
+
+// Behind the last piece one byte is kept: it tells that the text goes on.
+fn surplus(row: &mut [u8], i: Intake, b: u8) -> Intake
+    requires { ⌜ (i .n + 3 ≤ length (now row)) × (i .left ≡ 0) ⌝ }
+    ensures state { λ r. ⌜ r ≡ after i b ⌝ }
+    ensures row { λ r. ⌜ now (row .exit) ≡ placed (now (row .entry)) (i .n) (kept i b) ⌝ }
+{
+    let n = i.n;
+    let run = i.run;
+    let start = i.start;
+    if run == 0 {
+        row[n] = b;
+        return Intake {
+            n: n + 1,
+            run: 1,
+            start: start,
+            left: 0,
+        };
+    }
+    Intake {
+        n: n,
+        run: 1,
+        start: start,
+        left: 0,
+    }
+}
+
+// Of a piece of which enough is kept only its empty line still is, behind a byte that no line can have, so that its first line
+// feed ends a line.
+fn pass(row: &mut [u8], i: Intake, b: u8) -> Intake
+    requires { ⌜ (i .n + 3 ≤ length (now row)) × (i .left ≡ 0 → ⊥) × (16384 ≤ i .run) ⌝ }
+    ensures state { λ r. ⌜ r ≡ after i b ⌝ }
+    ensures row { λ r. ⌜ now (row .exit) ≡ placed (now (row .entry)) (i .n) (kept i b) ⌝ }
+{
+    let n = i.n;
+    let run = i.run;
+    let start = i.start;
+    let left = i.left;
+    if start & (b == 10) {
+        row[n] = 120;
+        row[n + 1] = 10;
+        row[n + 2] = 10;
+        return closed_at(n + 3, left);
+    }
+    Intake {
+        n: n,
+        run: run,
+        start: b == 10,
+        left: left,
+    }
+}
+
+// Takes in one byte.
+fn next(row: &mut [u8], i: Intake, b: u8) -> Intake
+    requires { ⌜ i .n + 3 ≤ length (now row) ⌝ }
+    ensures state { λ r. ⌜ r ≡ after i b ⌝ }
+    ensures row { λ r. ⌜ now (row .exit) ≡ placed (now (row .entry)) (i .n) (kept i b) ⌝ }
+{
+    let n = i.n;
+    let run = i.run;
+    let start = i.start;
+    let left = i.left;
+    if left == 0 {
+        return surplus(row, i, b);
+    }
+    if 16384 <= run {
+        return pass(row, i, b);
+    }
+    row[n] = b;
+    let feed = b == 10;
+    if start & feed {
+        return closed_at(n + 1, left);
+    }
+    Intake {
+        n: n + 1,
+        run: run + 1,
+        start: feed,
+        left: left,
+    }
+}
+
+// Takes in what was read of a text, as far as the row has room.
+pub fn keep(row: &mut [u8], i: Intake, bytes: &[u8]) -> Intake
+    ensures state { λ r. ⌜ r ≡ afterAll (now (row .entry)) i (now (bytes .entry)) ⌝ }
+    ensures row { λ r. ⌜ now (row .exit) ≡ rowAll (now (row .entry)) i (now (bytes .entry)) ⌝ }
+{
+    if row.len() < 3 {
+        return i;
+    }
+    let last = row.len() - 3;
+    let mut state = i;
+    let mut at: usize = 0;
+    while at < bytes.len() {
+        let n = state.n;
+        if last < n {
+            return state;
+        }
+        let b = bytes[at];
+        state = next(row, state, b);
+        at += 1;
+    }
+    state
+}
+
+// Takes in standard input to its end, or until no further byte can matter; answers how many bytes of the row are kept. Nothing
+// says that an input ends, so the turns are counted down from a number that no run uses up.
+pub fn take_in(row: &mut [u8], pieces: usize) -> usize
+    ensures { λ r. ⌜ r ≤ length (now (row .exit)) ⌝ }
+{
+    let mut chunk = io::large_buffer();
+    let mut i = at_first(pieces);
+    let mut turns = u64::MAX;
+    while turns > 0 {
+        let got = libc::read(STDIN_FILENO, &mut chunk);
+        if got <= 0 {
+            return i.n;
+        }
+        let n = io::count(got, &chunk);
+        i = keep(row, i, &chunk[..n]);
+        if i.left == 0 {
+            if i.run != 0 {
+                return i.n;
+            }
+        }
+        turns -= 1;
+    }
+    i.n
+}

@@ -1,0 +1,20 @@
+-- What is proved of days: `DayDemands` states it of the definitions, `Unique` that the day call has one reply. The others hold the laws that
+-- these and the functions' proofs cite.
+pub mod Totals
+pub mod Places
+pub mod Walks
+pub mod Days
+pub mod Unique
+pub mod Shut
+pub mod FirstBlock
+pub mod FirstHeader
+pub mod RoomEnough
+pub mod HourOfDay
+pub mod SumOfDay
+pub mod MarksOfDay
+pub mod CurvesOfDay
+pub mod OneHeader
+pub mod TwoDays
+pub mod KeptOfDay
+pub mod KeptSheet
+pub mod DayDemands

@@ -1,0 +1,82 @@
+-- The sum of the paid cents, with one answer more: what it is and how large it can be. A refusal withholds it.
+use mathlib.Core.Path.{_≡_, refl, sym, ap, _∙_}
+use Prim.Native.Nat.{ℕ, zero, suc, _+_, _^_, _<_, _≤_}
+use native.Mathlib.Nat.{div-le-of-le-mul}
+use native.Mathlib.Numerals.{add-one}
+use native.Mathlib.Omega.{arith}
+use lib.IntN.{ℤ, pos, negsuc, _+ℤ_}
+use lib.Signed.{mag}
+use Rattle.exact.specs.Whole.{over, Within}
+use Rattle.exact.proofs.Range.{within-add, within-more}
+use Rattle.tariff.specs.declared.Answer.{Answer}
+use Rattle.tariff.specs.declared.Answer.the-variants.{Paid, Refused}
+use Rattle.tariff.specs.declared.Check.{Check}
+use Rattle.tariff.specs.declared.Cents.{Cents}
+use Rattle.tariff.specs.declared.Grains.{Grains}
+use Rattle.tariff.specs.Units.{centsOf}
+use Rattle.tariff.specs.Reply.{Reply, paid, refused, told}
+use Rattle.ledger.specs.declared.Total.{Total}
+use Rattle.ledger.specs.declared.Total.the-variants.{Of, Withheld}
+use Rattle.ledger.specs.Day.{Sum, total, none, _plus_, sumOf, toldTotal}
+use Rattle.ledger.specs.Walk.{Rounded, UpToCents, Added}
+
+-- ---- the sum of the first
+
+pub sum-next : (f : ℕ → Reply) (n : ℕ) → sumOf f (n + 1) ≡ (sumOf f n plus f n)
+unfolding sumOf
+sum-next f n = rw add-one
+
+pub sum-same : (f g : ℕ → Reply) (n : ℕ) → ((k : ℕ) → k < n → f k ≡ g k) → sumOf f n ≡ sumOf g n
+unfolding sumOf
+sum-same f g zero h = refl
+sum-same f g (suc n) h = rw (sum-same f g n (λ k u. h k (omega arith)), h n (omega arith))
+
+refusal-withholds : (x : Sum) (number place : ℕ) → (x plus refused number place) ≡ none
+refusal-withholds (total c) number place = refl
+refusal-withholds none number place = refl
+
+pub none-paid : (f : ℕ → Reply) (n number place : ℕ) → 0 < n → ((k : ℕ) → k < n → f k ≡ refused number place) → sumOf f n ≡ none
+unfolding sumOf
+none-paid f zero number place u h = absurd (omega arith)
+none-paid f (suc n) number place u h = ap (λ (r : Reply). sumOf f n plus r) (h n (omega arith)) ∙ refusal-withholds (sumOf f n) number place
+
+-- ---- how large it can be
+
+pub none-most : (N : ℕ) → UpToCents N none
+none-most N = record { most = λ c e. absurd (let z : _≡_ {A = ℕ} 0 1 = cc in omega arith) }
+
+pub most-more : {A B : ℕ} {x : Sum} → A ≤ B → UpToCents A x → UpToCents B x
+most-more h u = record { most = λ c e. within-more h (u .most c e) }
+
+pub nothing-most : UpToCents 0 (total (pos 0))
+nothing-most = record { most = λ c e. let same : pos 0 ≡ c = cc in rw (← same) (record { above = omega arith; below = omega arith }) }
+
+over-mag : (z : ℤ) → over z ≤ mag z
+over-mag (pos n) = omega arith
+over-mag (negsuc n) = omega arith
+
+-- a sum of 64 bits
+cents-most : (sum : ℤ) → mag sum < 2 ^ 63 → Within 2600000000000 (centsOf sum)
+unfolding centsOf
+cents-most sum f = record { above = div-le-of-le-mul 3600000 (omega (arith, over-mag sum)); below = omega arith }
+
+pub rounded-most : (r : Reply) (sum cents : ℤ) → Rounded r → r ≡ paid sum cents → mag sum < 2 ^ 63 → Within 2600000000000 cents
+rounded-most r sum cents h e f = rw (h .cents sum cents e) (cents-most sum f)
+
+-- ---- one answer more
+
+pub add-withheld : (t : Total) (a : Answer) → t ≡ Withheld → Added (toldTotal t) (told a) none
+add-withheld t a e = rw e (record { told = refl; most = λ N u. none-most (N + 2600000000000) })
+
+pub add-refused : (t : Total) (a : Answer) (check : Check) → a ≡ Refused check → Added (toldTotal t) (told a) none
+add-refused t a check e =
+    rw e (record { told = sym (refusal-withholds (toldTotal t) _ _); most = λ N u. none-most (N + 2600000000000) })
+
+pub add-paid : (t : Total) (a : Answer) (c d : Cents) (g : Grains) (x : ℤ) → t ≡ Of c → a ≡ Paid g d → Within 2600000000000 (d .0) → x ≡ c .0 +ℤ d .0
+    → Added (toldTotal t) (told a) (total x)
+add-paid t a c d g x p q w e =
+    rw (p, q)
+    (record {
+      told = ap total e;
+      most = λ N u. record { most = λ z f. let same : z ≡ c .0 +ℤ d .0 = cc in rw same (within-add (u .most (c .0) refl) w) };
+    })

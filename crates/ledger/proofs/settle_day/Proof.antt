@@ -1,0 +1,81 @@
+-- `settle_day` meets its contract: a refused header refuses every hour, and behind a header that is read the blocks are settled.
+use mathlib.Core.Path.{_≡_, sym, ap, _∙_}
+use mathlib.Core.List.{List}
+use Prim.Native.Nat.{ℕ}
+use native.Mathlib.Omega.{arith}
+use borrow.Author.Needs.{needs}
+use Rattle.tariff.specs.declared.Check.{Check}
+use Rattle.tariff.specs.Reply.{clear, fault, numberOf, placeOf, shown}
+use Rattle.header.specs.Header.{headerFault}
+use Rattle.ledger.specs.declared.Day.{Day}
+use Rattle.ledger.specs.Day.{toldTotal, toldAll}
+use Rattle.ledger.proofs.Days.{header-inside, all-refused, total-withheld, replies-are, total-is}
+use Rattle.ledger.proofs.settle_day.Statement.{statement}
+use Rattle.ledger.proofs.settle_day.Tie as tie
+
+read-header-requires : tie.Need-read-header-requires
+read-header-requires c κs = search needs
+
+enum-known-found : tie.Need-enum-known-found
+enum-known-found c = search needs
+
+refused-day-requires : tie.Need-refused-day-requires
+refused-day-requires c κs = search needs
+
+returns : tie.Need-returns
+returns c =
+    let s : List ℕ = c .before .before .before .before .before .before .args .sheet .now in
+    let check : Check = c .before .before .found .given .0 .0 in
+    let same = c .refused-day .ensures in
+    let e : headerFault 24 s ≡ fault (numberOf check) (placeOf check) =
+    sym (c .before .before .before .before .read-header .ensures .0) ∙ ap shown (c .before .before .found .given .1) in (
+      ap (λ (d : Day). shown (d .header)) same ∙ sym e,
+      (
+        ap (λ (d : Day). toldAll (d .hours)) same ∙ all-refused 24 s check e,
+        ap (λ (d : Day). toldTotal (d .total)) same ∙ total-withheld 24 s check e (omega arith),
+      ),
+    )
+
+enum-told : tie.Need-enum-told
+enum-told c = search needs
+
+excluded-hours-requires : tie.Need-excluded-hours-requires
+excluded-hours-requires c κs = search needs
+
+settle-blocks-requires : tie.Need-settle-blocks-requires
+settle-blocks-requires c κs =
+    let h = c .before .before .before .before in
+    (header-inside 24 (h .before .before .args .sheet .now) (h .read-header .result .next) (h .read-header .ensures .1 .1), omega arith)
+
+returns-2 : tie.Need-returns-2
+returns-2 c =
+    let x = c .before .before in
+    let h = x .before .before .before .before in
+    let s : List ℕ = h .before .before .args .sheet .now in
+    let read : headerFault 24 s ≡ clear = sym (h .read-header .ensures .0) ∙ ap shown (x .before .before .enum-told .given .1) in
+    let m = h .read-header .result .marks in
+    let at = h .read-header .result .next in
+    let w = x .excluded-hours .result in
+    let settled = c .before .settle-blocks .ensures in
+    let marks = h .read-header .ensures .1 .0 in
+    let next = h .read-header .ensures .1 .1 in
+    let says = x .excluded-hours .ensures in (
+      h .read-header .ensures .0,
+      (
+        replies-are 24 s read m at w marks next says (c .before .settle-blocks .result .hours) (settled .long) (settled .answers),
+        total-is 24 s read m at w marks next says (toldTotal (c .before .settle-blocks .result .total)) (settled .sum),
+      ),
+    )
+
+pub settle-day-spec : {M : Type 1} → statement M
+settle-day-spec =
+    tie.close
+    (tie.spec
+    read-header-requires
+    enum-known-found
+    refused-day-requires
+    returns
+    enum-told
+    excluded-hours-requires
+    settle-blocks-requires
+    returns-2)
