@@ -4,7 +4,7 @@ ghost use Rattle.tariff.specs.Reply.{numberOf, placeOf};
 use libc::STDOUT_FILENO;
 use tariff::Check;
 
-// The text of a check in document 01's table, and its place.
+// The number of a check in document 01's table, and its place.
 pub fn number_of(check: Check) -> u64
     ensures { λ r. ⌜ r ≡ numberOf check ⌝ }
 {
@@ -37,21 +37,25 @@ pub fn place_of(check: Check) -> usize
 
 // What follows prints and has no reply to promise: no contract can say what is written.
 
-pub fn print_count(key: &[u8], n: u64) {
+pub fn print_key(key: &[u8]) {
     io::write_all(STDOUT_FILENO, key);
+}
+
+pub fn print_count(key: &[u8], n: u64) {
+    print_key(key);
     io::print_decimal(STDOUT_FILENO, n);
 }
 
 pub fn print_signed(key: &[u8], v: i64) {
-    io::write_all(STDOUT_FILENO, key);
+    print_key(key);
     if v < 0 {
-        io::write_all(STDOUT_FILENO, b"-");
+        print_key(b"-");
     }
     io::print_decimal(STDOUT_FILENO, units::magnitude(v));
 }
 
 pub fn end_line() {
-    io::write_all(STDOUT_FILENO, b"\n");
+    print_key(b"\n");
 }
 
 pub fn print_refusal(check: Check) {

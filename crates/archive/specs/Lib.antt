@@ -1,0 +1,2 @@
+-- What the archive's numbers say of a reply.
+pub mod Numbers
