@@ -37,6 +37,15 @@ pub fn of_hour() -> Vec<Event> {
     events
 }
 
+/// What the block call can reach: what `hour` can, and the two checks that it
+/// never meets, since it expects no hour and lends a row that is long enough.
+pub fn of_block() -> Vec<Event> {
+    let mut events = of_hour();
+    events.push(Event::Refused(Check::Order, Spot::DayAheadLine));
+    events.push(Event::Refused(Check::Room, Spot::WholeHour));
+    events
+}
+
 /// What the program `day` can reach.
 pub fn of_day() -> Vec<Event> {
     let mut events = of_hour();
@@ -241,12 +250,10 @@ mod tests {
     }
 
     #[test]
-    fn every_refusal_belongs_to_a_program() {
-        let room = Event::Refused(Check::Room, Spot::WholeHour);
-        let known = [of_day(), of_import()].concat();
+    fn every_refusal_belongs_to_a_program_or_a_call() {
+        let known = [of_block(), of_day(), of_import()].concat();
         for event in Event::refusals() {
-            // The programs lend a row that is long enough.
-            assert!(known.contains(&event) || event == room, "{event:?}");
+            assert!(known.contains(&event), "{event:?}");
         }
     }
 }

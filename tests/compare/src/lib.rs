@@ -8,11 +8,14 @@
 //!   recipe;
 //! - [`same`]: pairs of texts whose answers are bound to each other;
 //! - [`events`]: what the texts of each program have to reach;
-//! - [`outside`] and [`run`]: the comparison itself.
+//! - [`outside`] and [`run`]: the comparison itself;
+//! - [`arguments`] and [`tally`]: what a comparison is told, and what came of
+//!   it.
 //!
 //! A text depends on its seed and index alone, so that each one can be made
 //! again.
 
+pub mod arguments;
 pub mod damage;
 pub mod day;
 pub mod events;
@@ -24,6 +27,7 @@ pub mod plan;
 pub mod random;
 pub mod run;
 pub mod same;
+pub mod tally;
 
 /// Every program that can be compared.
 pub const PROGRAMS: [&plan::Program; 3] = [&hour::PROGRAM, &day::PROGRAM, &import::PROGRAM];

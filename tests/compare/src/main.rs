@@ -1,9 +1,9 @@
 //! Compares a program with the second program on generated texts.
 
 use std::io::Write;
-use std::path::{Path, PathBuf};
 use std::process::ExitCode;
 
+use compare::arguments::Arguments;
 use compare::plan::Program;
 use compare::run::Job;
 use compare::PROGRAMS;
@@ -21,54 +21,6 @@ every event that was reached. The exit status is 1 if anything failed or if a
 wanted event was never reached, which takes some 3000 texts.
 ";
 
-struct Arguments {
-    program: &'static Program,
-    bin: Option<PathBuf>,
-    seed: u64,
-    count: usize,
-    pairs: Option<usize>,
-    threads: usize,
-    only: Option<usize>,
-    show: Option<usize>,
-    all: bool,
-    out: PathBuf,
-}
-
-fn arguments(mut given: impl Iterator<Item = String>) -> Option<Arguments> {
-    let name = given.next()?;
-    let mut arguments = Arguments {
-        program: PROGRAMS.into_iter().find(|program| program.name == name)?,
-        bin: None,
-        seed: 1,
-        count: 20_000,
-        pairs: None,
-        threads: 2,
-        only: None,
-        show: None,
-        all: false,
-        out: Path::new("target").join("compare"),
-    };
-    while let Some(name) = given.next() {
-        if name == "--all" {
-            arguments.all = true;
-            continue;
-        }
-        let value = given.next()?;
-        match name.as_str() {
-            "--bin" => arguments.bin = Some(value.into()),
-            "--seed" => arguments.seed = value.parse().ok()?,
-            "--count" => arguments.count = value.parse().ok()?,
-            "--pairs" => arguments.pairs = Some(value.parse().ok()?),
-            "--threads" => arguments.threads = value.parse().ok().filter(|n| *n > 0)?,
-            "--only" => arguments.only = Some(value.parse().ok()?),
-            "--show" => arguments.show = Some(value.parse().ok()?),
-            "--out" => arguments.out = value.into(),
-            _ => return None,
-        }
-    }
-    (arguments.bin.is_some() || arguments.show.is_some()).then_some(arguments)
-}
-
 fn show(program: &Program, seed: u64, index: usize) -> ExitCode {
     let text = program.case(seed, index).text;
     match std::io::stdout().lock().write_all(&text) {
@@ -77,24 +29,31 @@ fn show(program: &Program, seed: u64, index: usize) -> ExitCode {
     }
 }
 
+/// The program that is compared, and the options.
+fn told(mut given: impl Iterator<Item = String>) -> Option<(&'static Program, Arguments)> {
+    let name = given.next()?;
+    let program = PROGRAMS.into_iter().find(|program| program.name == name)?;
+    let arguments = Arguments::of(given)?;
+    let asks = arguments.bin.is_some() || arguments.show.is_some();
+    asks.then_some((program, arguments))
+}
+
 fn main() -> ExitCode {
-    let Some(arguments) = arguments(std::env::args().skip(1)) else {
+    let Some((program, arguments)) = told(std::env::args().skip(1)) else {
         eprint!("{USAGE}");
         return ExitCode::from(2);
     };
     if let Some(index) = arguments.show {
-        return show(arguments.program, arguments.seed, index);
+        return show(program, arguments.seed, index);
     }
+    let cases = arguments.cases();
     let bin = arguments.bin.unwrap_or_default();
     let pairs = arguments.pairs.unwrap_or(arguments.count / 10);
     let job = Job {
-        program: arguments.program,
+        program,
         bin: &bin,
         seed: arguments.seed,
-        cases: match arguments.only {
-            Some(index) => index..index + 1,
-            None => 0..arguments.count,
-        },
+        cases,
         pairs: 0..if arguments.only.is_some() { 0 } else { pairs },
         threads: arguments.threads,
         out: arguments.out,

@@ -1,24 +1,20 @@
 //! The comparison: every text goes to the program outside and to the second
 //! program, and their answers have to be the same bytes.
 
-use std::collections::BTreeMap;
 use std::fmt::Write as _;
 use std::path::{Path, PathBuf};
 use std::sync::atomic::{AtomicUsize, Ordering};
 use std::time::Instant;
-use std::{fs, io, thread};
+use std::{io, thread};
 
-use second::{Event, Run, Way};
+use second::{Run, Way};
 
-use crate::events::is_counted;
 use crate::outside::{Manner, Outside, Reply};
 use crate::plan::Program;
 use crate::random::Rng;
+use crate::tally::{shown, write_failure, Tally, ENOUGH};
 
-/// After so many failures a run is stopped.
-const ENOUGH: usize = 50;
-
-/// A program that does not end in time counts for so many of them.
+/// A program that does not end in time counts for so many failures.
 const SLOW_WEIGHT: usize = 10;
 
 /// A text or a pair that failed.
@@ -51,38 +47,6 @@ pub struct Job<'a> {
     pub all_events: bool,
 }
 
-/// What came of it.
-#[derive(Default)]
-pub struct Tally {
-    /// Texts, pairs and wanted events that passed.
-    pub passed: usize,
-    /// Those that failed.
-    pub failed: usize,
-    /// Of each recipe: texts without a refusal, and with one.
-    recipes: BTreeMap<&'static str, [usize; 2]>,
-    trace: second::Trace,
-    failures: Vec<String>,
-}
-
-impl Tally {
-    fn add(&mut self, other: Tally) {
-        self.passed += other.passed;
-        self.failed += other.failed;
-        for (recipe, counts) in other.recipes {
-            let sum = self.recipes.entry(recipe).or_default();
-            sum[0] += counts[0];
-            sum[1] += counts[1];
-        }
-        self.trace.add(&other.trace);
-        self.failures.extend(other.failures);
-    }
-
-    fn count(&mut self, recipe: &'static str, answer: &str) {
-        let refused = answer.contains("refused=");
-        self.recipes.entry(recipe).or_default()[usize::from(refused)] += 1;
-    }
-}
-
 impl Job<'_> {
     /// Compares everything and prints a report; the last line counts what
     /// passed and what failed.
@@ -94,40 +58,15 @@ impl Job<'_> {
         let name = self.program.name;
         println!("{name}: {cases} texts and {pairs} pairs in {seconds:.1} s");
         println!("seed {}, {} threads", self.seed, self.threads);
-        for (recipe, [paid, refused]) in &tally.recipes {
-            println!("{recipe}: {paid} without a refusal, {refused} with one");
-        }
+        tally.report(self.all_events);
         let done = tally.passed + tally.failed;
-        let whole = done == cases + pairs;
-        self.report_events(&mut tally, whole);
-        if !whole {
+        if done < cases + pairs {
             println!("stopped after {done} of {}", cases + pairs);
+        } else if self.judge_events {
+            tally.judge_events(&(self.program.wanted)());
         }
-        for failure in &tally.failures {
-            println!("failed: {failure}");
-        }
-        println!("{} passed, {} failed", tally.passed, tally.failed);
+        tally.end();
         Ok(tally)
-    }
-
-    fn report_events(&self, tally: &mut Tally, whole: bool) {
-        for (event, count) in tally.trace.events() {
-            if self.all_events || is_counted(event) {
-                println!("reached {count} times: {event:?}");
-            }
-        }
-        if !(self.judge_events && whole) {
-            return;
-        }
-        let wanted = (self.program.wanted)();
-        let missing: Vec<Event> = tally.trace.missing(wanted.iter().copied());
-        let reached = wanted.len() - missing.len();
-        println!("{reached} of {} wanted events reached", wanted.len());
-        for event in &missing {
-            println!("never reached: {event:?}");
-        }
-        tally.passed += reached;
-        tally.failed += missing.len();
     }
 
     fn all(&self) -> io::Result<Tally> {
@@ -176,15 +115,11 @@ impl Job<'_> {
             } else {
                 break;
             };
-            match failure {
-                None => tally.passed += 1,
-                Some(failure) => {
-                    tally.failed += 1;
-                    let weight = if failure.in_time { 1 } else { SLOW_WEIGHT };
-                    failed.fetch_add(weight, Ordering::Relaxed);
-                    tally.failures.push(failure.line);
-                }
+            if let Some(failure) = &failure {
+                let weight = if failure.in_time { 1 } else { SLOW_WEIGHT };
+                failed.fetch_add(weight, Ordering::Relaxed);
             }
+            tally.compared(failure.map(|failure| failure.line));
         }
         tally.trace = asker.run.trace;
         Ok(tally)
@@ -261,7 +196,7 @@ impl Asker<'_> {
     fn case(&mut self, index: usize, tally: &mut Tally) -> io::Result<Option<Failure>> {
         let case = self.job.program.case(self.job.seed, index);
         let answers = self.answers(case.text, index)?;
-        tally.count(case.recipe, &answers.second);
+        tally.count(case.recipe, answers.second.contains("refused="));
         if answers.agree() {
             return Ok(None);
         }
@@ -322,8 +257,6 @@ impl Asker<'_> {
         about: &str,
         all: &[&Answers],
     ) -> io::Result<Failure> {
-        fs::create_dir_all(&self.job.out)?;
-        let path = self.job.out.join(name);
         let mut file = format!(
             "{} of seed {}\nmade as: {recipe}\n{about}",
             self.job.program.name, self.job.seed
@@ -332,7 +265,7 @@ impl Asker<'_> {
         for answers in all {
             file.extend(self.describe(answers));
         }
-        fs::write(&path, file)?;
+        let path = write_failure(&self.job.out, name, &file)?;
         let differs = all.iter().find(|answers| !answers.agree());
         let line = differs.map_or("bond broken".to_string(), |answers| answers.difference());
         Ok(Failure {
@@ -357,10 +290,8 @@ impl Asker<'_> {
             let _ = writeln!(text, "{}", String::from_utf8_lossy(stderr));
         }
         let _ = writeln!(text, "--- handed over as {:?}", answers.manner);
-        let _ = writeln!(text, "--- the text, {} bytes", answers.text.len());
         let mut bytes = text.into_bytes();
-        bytes.extend_from_slice(&answers.text);
-        bytes.extend_from_slice(b"\n--- end of the text\n");
+        bytes.extend(shown(&answers.text));
         bytes
     }
 }

@@ -1,0 +1,149 @@
+//! The figures as a page: ratios first, absolute figures second.
+
+use std::fmt;
+
+use second::day::HOURS;
+
+use crate::programs::Program;
+use crate::timing::{Growth, COUNTS};
+
+/// Everything that was measured.
+pub struct Report {
+    /// The kind of machine.
+    pub machine: String,
+    /// How many different hour blocks there are.
+    pub hours: usize,
+    /// How many bytes the blocks of 1 to 1,000 sheets have.
+    pub bytes: [usize; COUNTS.len()],
+    /// The block call over these blocks.
+    pub blocks: Vec<Growth>,
+    /// The programs.
+    pub programs: Vec<Program>,
+}
+
+const HEAD: &str = "\
+# Benchmark
+
+`sh tests/bench/run` measures and writes this page. Ratios first: the absolute figures are this machine's.
+
+The sheets are days of a plant, every hour of 30 intervals with two curves of 12 steps, all paid. Everything goes over the same
+bytes in the same run, built for release and warmed, in turn and in several rounds; a figure is their median. The second program
+is the independent one of tests/second, `wc -l` a yardstick that only counts lines. No time is judged anywhere.
+";
+
+/// A heading, a sentence, and the first lines of a table.
+fn table(
+    out: &mut fmt::Formatter<'_>,
+    heading: &str,
+    sentence: &str,
+    columns: &[&str],
+) -> fmt::Result {
+    writeln!(out, "\n## {heading}\n\n{sentence}\n")?;
+    writeln!(out, "| {} |", columns.join(" | "))?;
+    writeln!(out, "|{}", "---|".repeat(columns.len()))
+}
+
+impl fmt::Display for Report {
+    fn fmt(&self, out: &mut fmt::Formatter<'_>) -> fmt::Result {
+        let Report { machine, hours, .. } = self;
+        let average = self.bytes[0] / HOURS;
+        writeln!(out, "{HEAD}")?;
+        writeln!(out, "- Machine: {machine}.")?;
+        writeln!(out, "- Hours: {hours} different ones of some {average} bytes; longer runs go over them again.")?;
+        self.ratios(out)?;
+        self.rates(out)?;
+        self.growth(out)?;
+        self.memory(out)
+    }
+}
+
+impl Report {
+    /// Each thing that grows, and its name.
+    fn all(&self) -> Vec<(String, &[Growth])> {
+        let blocks = ("block call, sheets".to_string(), &self.blocks[..]);
+        let name = |p: &Program| format!("program `{}`, runs", p.name);
+        let programs = self.programs.iter();
+        let programs = programs.map(|p| (name(p), &p.growth[..]));
+        [blocks].into_iter().chain(programs).collect()
+    }
+
+    fn ratios(&self, out: &mut fmt::Formatter<'_>) -> fmt::Result {
+        let heading = "How many times as fast the proved one is";
+        let sentence = "By bytes and by hours alike, since both go over the same ones. In brackets the least and the greatest of the rounds.";
+        let columns = ["What", "how many", "as the second program", "as `wc -l`"];
+        table(out, heading, sentence, &columns)?;
+        for (name, growth) in self.all() {
+            for growth in growth {
+                let shown = |[least, median, most]: [f64; 3]| {
+                    format!("{median:.2} ({least:.2} to {most:.2})")
+                };
+                let [second, wc] = [1, 2].map(|other| shown(growth.ratio(other)));
+                writeln!(out, "| {name} | {} | {second} | {wc} |", growth.count)?;
+            }
+        }
+        Ok(())
+    }
+
+    fn rates(&self, out: &mut fmt::Formatter<'_>) -> fmt::Result {
+        let (Some(last), Some(bytes)) = (self.blocks.last(), self.bytes.last()) else {
+            return Ok(());
+        };
+        let sentence = format!("Over {} sheets of {HOURS} hours.", last.count);
+        let columns = ["What", "MB per second", "hours per second"];
+        table(out, "The block call", &sentence, &columns)?;
+        let names = [
+            "proved, through the static library",
+            "second program, in process",
+            "`wc -l` on a file",
+        ];
+        for (name, seconds) in names.into_iter().zip(last.seconds()) {
+            let bytes = *bytes as f64 / 1e6 / seconds;
+            let hours = (last.count * HOURS) as f64 / seconds;
+            writeln!(out, "| {name} | {bytes:.0} | {hours:.0} |")?;
+        }
+        Ok(())
+    }
+
+    fn growth(&self, out: &mut fmt::Formatter<'_>) -> fmt::Result {
+        let heading = "Growth: microseconds for each sheet or run";
+        let sentence = "A sheet is 24 calls in one process, a run one process for one text. `wc -l` is a process everywhere, its start included.";
+        let columns = ["What", "how many", "proved", "second program", "`wc -l`"];
+        table(out, heading, sentence, &columns)?;
+        for (name, growth) in self.all() {
+            for growth in growth {
+                let count = growth.count;
+                let each = |seconds: f64| format!("{:.0}", seconds * 1e6 / count as f64);
+                let each = growth.seconds().map(each).join(" | ");
+                writeln!(out, "| {name} | {count} | {each} |")?;
+            }
+        }
+        Ok(())
+    }
+
+    fn memory(&self, out: &mut fmt::Formatter<'_>) -> fmt::Result {
+        let sentence = "Resident, as the system gives it when the first line is printed.";
+        let columns = [
+            "Program",
+            "bytes of its text",
+            "proved",
+            "second program",
+            "`wc -l`",
+        ];
+        table(out, "The most memory of a run", sentence, &columns)?;
+        for Program {
+            name,
+            bytes,
+            memory,
+            ..
+        } in &self.programs
+        {
+            let shown = |most: Option<u64>| most.map_or("-".into(), |most| format!("{most} kB"));
+            writeln!(
+                out,
+                "| `{name}` | {bytes} | {} |",
+                memory.map(shown).join(" | ")
+            )?;
+        }
+        Ok(())
+    }
+}

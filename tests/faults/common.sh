@@ -1,0 +1,162 @@
+# What the tests of the three programs share: how a program is run, how it is
+# judged, and the bytes that texts are made of. Read by faults.sh.
+
+work=target/faults.$$
+mkdir -p "$work" || exit 2
+trap 'rm -rf "$work"; rmdir target 2>/dev/null' EXIT
+trap 'exit 2' HUP INT TERM
+mkfifo "$work/pipe" || exit 2
+
+passed=0
+failed=0
+
+# --- How a program is run.
+
+# A program that has not ended after so many seconds is ended: status 124.
+if command -v timeout >/dev/null; then
+    within() { timeout "$@"; }
+else
+    within() { shift; "$@"; }
+fi
+
+# What a run may take of memory, in kB, however long its input is. It is less
+# than the long inputs, so that a program that keeps them is found out.
+memory=16384
+if (ulimit -v "$memory") 2>/dev/null; then
+    can_limit=yes
+else
+    can_limit=no
+    echo "no limit of memory can be set here: not tested"
+fi
+
+# The program that the next cases are about: its name and its path. The second
+# program keeps all its input in memory and reads it to the end. Where it is
+# itself under test, memory has no limit and no input is endless.
+take() {
+    name=$1
+    program=$2
+    second=$here/second/target/release/${name}2
+    frugal=yes
+    limit=$can_limit
+    if cmp -s "$(command -v "$program")" "$second"; then
+        frugal=no
+        limit=no
+    fi
+}
+
+# Runs the program for so many seconds at most.
+bare() (
+    if [ "$limit" = yes ]; then
+        ulimit -v "$memory"
+    fi
+    within "$1" "$program"
+)
+
+# The same, and keeps what it writes.
+run() {
+    bare "$1" >"$work/got" 2>"$work/err"
+}
+
+# Runs it on the file $1, written to a pipe that stays open until it has ended.
+held_open() {
+    run 20 <"$work/pipe" &
+    running=$!
+    exec 3>"$work/pipe"
+    # What has an early answer may not take the rest.
+    (cat "$1" >&3) 2>/dev/null
+    wait "$running"
+    status=$?
+    exec 3>&-
+    return "$status"
+}
+
+# --- How it is judged. Each of these stands directly behind a run.
+
+pass() {
+    passed=$((passed + 1))
+}
+
+fail() {
+    failed=$((failed + 1))
+    echo "failed: $name: $1"
+}
+
+# The answer in $work/got has to be the one in $work/want, with status 0 and
+# nothing on standard error.
+answered() {
+    status=$?
+    if [ "$status" -ne 0 ]; then
+        fail "$1: status $status"
+    elif [ -s "$work/err" ]; then
+        fail "$1: $(head -n 1 "$work/err")"
+    elif ! cmp -s "$work/got" "$work/want"; then
+        fail "$1: $(diff "$work/got" "$work/want" | grep '^[<>]' | head -n 4 | tr '\n' ' ')"
+    else
+        pass
+    fi
+}
+
+# The program has to have ended by itself, without a panic, a signal or a
+# message. It may say by its status that it could not do its work.
+ended() {
+    status=$?
+    if [ "$status" -eq 101 ] || [ "$status" -ge 124 ]; then
+        fail "$1: status $status"
+    elif [ -s "$work/err" ]; then
+        fail "$1: $(head -n 1 "$work/err")"
+    else
+        pass
+    fi
+}
+
+# Runs it on $work/text, through a pipe: the answer has to be the second
+# program's on the same bytes.
+same() {
+    "$second" <"$work/text" >"$work/want"
+    cat "$work/text" 2>/dev/null | run 20
+    answered "$1"
+}
+
+# --- What texts are made of.
+
+# The first so many bytes of a file.
+first() {
+    if [ "$2" -gt 0 ]; then
+        dd if="$1" bs="$2" count=1 2>/dev/null
+    fi
+}
+
+# What stands behind so many bytes.
+rest() {
+    tail -c "+$(($1 + 1))"
+}
+
+# The bytes of a file from one place to another, one by one.
+one_by_one() {
+    at=$2
+    while [ "$at" -lt "$3" ]; do
+        dd if="$1" bs=1 skip="$at" count=1 2>/dev/null
+        at=$((at + 1))
+    done
+}
+
+size_of() {
+    echo $(($(wc -c <"$1")))
+}
+
+# So many bytes like this one.
+fill() {
+    if [ "$1" -gt 0 ]; then
+        dd if=/dev/zero bs="$1" count=1 2>/dev/null | tr '\0' "$2"
+    fi
+}
+
+# 50 MB of this byte.
+fifty() {
+    dd if=/dev/zero bs=1048576 count=50 2>/dev/null | tr '\0' "$1"
+}
+
+# 50 MB of this line.
+fifty_lines() {
+    yes "$1" 2>/dev/null | head -n $((52428800 / (${#1} + 1)))
+}

@@ -1,0 +1,194 @@
+//! One call: the block of an index, what is lent beside it, and the answers of
+//! the library and of the second program.
+
+use std::fmt;
+
+use compare::damage::SHEET_BYTES;
+use compare::hour;
+use compare::random::Rng;
+use second::hour::judge_block;
+use second::record::{LINES_BEFORE, MOST_INTERVALS};
+use second::text::cut_block;
+use second::{Answer, Ask, HourRecord, Run};
+
+use crate::archive::{self, Numbers};
+use crate::reached::{Answered, Hour, Room};
+
+/// Entries on either side of a lent row that nobody may touch.
+const BESIDE: usize = 3;
+
+/// What is lent, and what is asked.
+pub struct Call {
+    /// The way the block was made.
+    pub recipe: &'static str,
+    /// The block, with bytes around it that belong to nobody.
+    bytes: Vec<u8>,
+    block: std::ops::Range<usize>,
+    excluded: bool,
+    expected: i64,
+    /// The row, with [`BESIDE`] entries on either side.
+    entries: Vec<i64>,
+    numbers: Numbers,
+    room: Room,
+    hour: Hour,
+}
+
+/// What a call gave back, and everything that was lent as it then was.
+#[derive(Debug, PartialEq, Eq)]
+pub struct Outcome {
+    /// 0 where the block is paid, else the number of the check.
+    pub number: u64,
+    /// The three numbers.
+    pub numbers: Numbers,
+    /// The row, with what stands on either side of it.
+    pub entries: Vec<i64>,
+}
+
+impl Call {
+    /// The call of this index under this seed.
+    pub fn new(seed: u64, index: usize) -> Self {
+        let case = hour::PROGRAM.case(seed, index);
+        // Another seed than the text's.
+        let mut rng = Rng::new(seed ^ 0xca11, index as u64);
+        let (said, intervals) = said(&case.text);
+        let expected = match rng.below(5) {
+            0 | 1 => rng.pick(&[-1, -1, -1, -24, i64::MIN]),
+            2 | 3 => said,
+            _ => another_hour(&mut rng, said),
+        };
+        let length = match rng.pick(&Room::ALL) {
+            Room::Empty => 0,
+            Room::OneShort => intervals.saturating_sub(1),
+            Room::Exact => intervals,
+            Room::OneLong => intervals + 1,
+            Room::MuchLonger => intervals + 2 + rng.below(60),
+        };
+        // What stands behind the block would go on with its last number.
+        let mut bytes = rng.bytes_of(SHEET_BYTES, 5);
+        let block = bytes.len()..bytes.len() + case.text.len();
+        bytes.extend(case.text);
+        bytes.extend(rng.bytes_of(SHEET_BYTES, 40));
+        let mut sentinel = || rng.bits() as i64;
+        let entries = (0..length + 2 * BESIDE).map(|_| sentinel()).collect();
+        let numbers = Numbers {
+            place: sentinel() as u64,
+            grains: sentinel(),
+            cents: sentinel(),
+        };
+        let excluded = rng.once_in(3);
+        Call {
+            recipe: case.recipe,
+            bytes,
+            block,
+            excluded,
+            expected,
+            entries,
+            numbers,
+            room: Room::of(length, intervals),
+            hour: match expected {
+                ..=-1 => Hour::Any,
+                _ if expected == said => Hour::Own,
+                _ => Hour::Other,
+            },
+        }
+    }
+
+    /// The lent block.
+    pub fn text(&self) -> &[u8] {
+        &self.bytes[self.block.clone()]
+    }
+
+    /// This answer, with what it was asked with.
+    pub fn answered(&self, number: u64) -> Answered {
+        Answered {
+            number,
+            room: self.room,
+            hour: self.hour,
+            excluded: self.excluded,
+        }
+    }
+
+    /// What is lent, before the call: nothing is written where nothing says so.
+    fn before(&self) -> Outcome {
+        Outcome {
+            number: 0,
+            numbers: self.numbers,
+            entries: self.entries.clone(),
+        }
+    }
+
+    /// The answer of the proved library.
+    pub fn of_archive(&self) -> Outcome {
+        let mut outcome = self.before();
+        let Outcome {
+            number,
+            numbers,
+            entries,
+        } = &mut outcome;
+        let row = row_in(entries);
+        *number = archive::block(self.text(), self.excluded, self.expected, row, numbers);
+        outcome
+    }
+
+    /// The answer of the second program.
+    pub fn of_second(&self, run: &mut Run) -> Outcome {
+        let mut outcome = self.before();
+        let ask = Ask {
+            excluded: self.excluded,
+            expected: Some(self.expected).filter(|hour| *hour >= 0),
+        };
+        let row = row_in(&mut outcome.entries);
+        match judge_block(self.text(), ask, row, run) {
+            Answer::Refused(refusal) => {
+                outcome.number = refusal.check.number().into();
+                outcome.numbers.place = refusal.place as u64;
+            }
+            Answer::Paid(paid) => {
+                let held = |sum: i128| i64::try_from(sum).expect("an hour's sum has 64 bits");
+                outcome.numbers.grains = held(paid.grains);
+                outcome.numbers.cents = held(paid.cents);
+            }
+        }
+        outcome
+    }
+}
+
+/// What is lent, as a failure's file shows it.
+impl fmt::Display for Call {
+    fn fmt(&self, out: &mut fmt::Formatter<'_>) -> fmt::Result {
+        let (excluded, expected) = (self.excluded, self.expected);
+        let length = self.entries.len() - 2 * BESIDE;
+        writeln!(out, "excluded: {excluded}, expected hour: {expected}")?;
+        writeln!(out, "{:?}", self.numbers)?;
+        writeln!(out, "a row of {length} entries ({:?}),", self.room)?;
+        writeln!(out, "shown with {BESIDE} more on either side:")?;
+        writeln!(out, "{:?}", self.entries)
+    }
+}
+
+fn row_in(entries: &mut [i64]) -> &mut [i64] {
+    let end = entries.len() - BESIDE;
+    &mut entries[BESIDE..end]
+}
+
+/// The hour and the count of intervals that a block says; of a block that
+/// cannot be read, hour 0 and its lines behind the third.
+fn said(text: &[u8]) -> (i64, usize) {
+    let lines = cut_block(text).lines;
+    match HourRecord::read(&lines) {
+        Ok(record) => (record.day_ahead.hour, record.count),
+        Err(_) => {
+            let behind = lines.len().saturating_sub(LINES_BEFORE);
+            (0, behind.min(MOST_INTERVALS))
+        }
+    }
+}
+
+fn another_hour(rng: &mut Rng, said: i64) -> i64 {
+    let hour = rng.between(0, 23);
+    let near = [said + 1, (said - 1).max(0), hour, hour, 24, i64::MAX];
+    match rng.pick(&near) {
+        hour if hour == said => said + 1,
+        hour => hour,
+    }
+}

@@ -1,0 +1,207 @@
+#!/bin/sh
+# The samples, and the page that explains them. Each samples/PROGRAM/NAME.txt
+# goes through its program, and what is printed has to be NAME.out, byte for
+# byte. Then docs/answers.md: what it quotes has to stand in the samples.
+#
+#   sh samples.sh PATH-OF-HOUR PATH-OF-DAY PATH-OF-IMPORT
+#
+# What the page quotes, a sample being named as in hour/reach:
+#   <!-- sample: NAME [H] --> stands before a quoted block. In it `L | text` is
+#       line L of the sample's first block, or of hour H's (`...` leaves out the
+#       rest), a bar alone is a remark, and the other lines are the printed
+#       answer, each with a remark of ours behind two spaces.
+#   <!-- column: NAME --> stands before a table whose first cells are the answer.
+#   A table row that begins with a NAME has the answer's last line in its second
+#   cell, and in "NAME prints ANSWER" that line follows.
+# Every name is a sample's, and every sample is named. The last line counts what
+# passed and what failed; the status is 1 if anything failed.
+set -u
+LC_ALL=C
+export LC_ALL
+
+if [ $# -ne 3 ]; then
+    echo "usage: sh samples.sh PATH-OF-HOUR PATH-OF-DAY PATH-OF-IMPORT" >&2
+    exit 2
+fi
+for program in "$1" "$2" "$3"; do
+    if ! command -v "$program" >/dev/null; then
+        echo "no program $program" >&2
+        exit 2
+    fi
+done
+hour=$1
+day=$2
+import=$3
+root=$(dirname -- "$0")/..
+page=$root/docs/answers.md
+
+work=target/samples.$$
+mkdir -p "$work" || exit 2
+trap 'rm -rf "$work"; rmdir target 2>/dev/null' EXIT
+trap 'exit 2' HUP INT TERM
+
+passed=0
+failed=0
+
+# A program that has not ended after so many seconds is ended: status 124.
+if command -v timeout >/dev/null; then
+    within() { timeout "$@"; }
+else
+    within() { shift; "$@"; }
+fi
+
+pass() {
+    passed=$((passed + 1))
+}
+
+fail() {
+    failed=$((failed + 1))
+    echo "failed: $1"
+}
+
+# The first line at which two files differ, for the message.
+differ() {
+    awk 'NR == FNR { want[FNR] = $0; n = FNR; next }
+        $0 != want[FNR] && !said { printf "line %d is \"%s\", not \"%s\"", FNR, $0, want[FNR]; said = 1 }
+        END { if (!said) printf "%d lines, not %d, or another end", FNR, n }' "$1" "$2"
+}
+
+# --- Each sample through its program.
+for name in hour day import; do
+    case $name in
+        hour) program=$hour ;;
+        day) program=$day ;;
+        import) program=$import ;;
+    esac
+    for text in "$root/samples/$name"/*.txt; do
+        said=${text%.txt}.out
+        label=$name/$(basename "$text" .txt)
+        within 20 "$program" <"$text" >"$work/got" 2>"$work/err"
+        status=$?
+        if [ "$status" -ne 0 ]; then
+            fail "$label: status $status"
+        elif [ -s "$work/err" ]; then
+            fail "$label: $(head -n 1 "$work/err")"
+        elif [ ! -f "$said" ]; then
+            fail "$label: no .out"
+        elif ! cmp -s "$work/got" "$said"; then
+            fail "$label: $(differ "$said" "$work/got")"
+        else
+            pass
+        fi
+    done
+    for said in "$root/samples/$name"/*.out; do
+        [ -f "${said%.out}.txt" ] || fail "$name/$(basename "$said" .out): no .txt"
+    done
+done
+
+# --- What the page quotes: for each quotation a line in the list, a file of
+# answers and a file of sheet lines.
+: >"$work/list"
+awk -v dir="$work" '
+function start(kind, name, hour) {
+    n++
+    printf "" >(dir "/answer." n)
+    printf "" >(dir "/lines." n)
+    print n, kind, name, hour >(dir "/list")
+}
+function finish() {
+    close(dir "/answer." n)
+    close(dir "/lines." n)
+    mark = ""
+    inside = 0
+}
+function answer(text) {
+    print text >(dir "/answer." n)
+}
+# The code within a table cell, counted from 1.
+function cell(i, cells, codes) {
+    if (split($0, cells, "|") <= i || split(cells[i + 1], codes, "`") < 3) return ""
+    return codes[2]
+}
+/^<!-- (sample|column): / { mark = $2; start(mark, $3, $4 == "-->" ? "-" : $4); next }
+mark == "sample:" {
+    if (/^```/) { if (inside) finish(); else inside = 1; next }
+    if (!inside || /^ *\|/) next
+    if (match($0, /^ *[0-9]+ \| /)) print $1 "\t" substr($0, RLENGTH + 1) >(dir "/lines." n)
+    else { sub(/  .*/, ""); answer($0) }
+    next
+}
+mark == "column:" {
+    if (/^\|/) { if (cell(1) != "") answer(cell(1)); inside = 1; next }
+    if (inside) finish()
+    next
+}
+/^\| `(hour|day|import)\// { start("last:", cell(1), "-"); answer(cell(2)); finish(); next }
+# "prints" may stand at a line end, so a line is read together with the one before.
+{
+    both = before " " $0
+    before = $0
+    while (match(both, /`(hour|day|import)\/[a-z0-9-]+` prints `[^`]+`/)) {
+        split(substr(both, RSTART, RLENGTH), codes, "`")
+        both = before = substr(both, RSTART + RLENGTH)
+        start("last:", codes[2], "-")
+        answer(codes[4])
+        finish()
+    }
+}
+END { if (mark != "") print "the page: a quotation without an end" }' "$page" >"$work/open"
+[ -s "$work/open" ] && fail "$(cat "$work/open")"
+
+# The first line of a quotation that does not stand at its place in the sample.
+misquoted() {
+    awk -v block="$3" 'BEGIN { block = block == "-" ? 0 : block + 1 }
+        NR == FNR { want[$1 + 0] = substr($0, index($0, "\t") + 1); next }
+        $0 == "" { at++; line = 0; next }
+        { line++ }
+        at + 0 == block && line in want {
+            quote = want[line]
+            same = sub(/ \.\.\.$/, " ", quote) ? index($0, quote) == 1 : $0 == quote
+            if (same) delete want[line]
+        }
+        END { for (line in want) { print "line " line; exit } }' "$1" "$2"
+}
+
+while read -r n kind name block; do
+    said=$root/samples/$name.out
+    if [ ! -f "$said" ]; then
+        fail "the page: no sample $name"
+        continue
+    elif [ ! -s "$work/answer.$n" ] && [ ! -s "$work/lines.$n" ]; then
+        fail "the page: nothing quoted for $name"
+    fi
+    if [ -s "$work/lines.$n" ]; then
+        wrong=$(misquoted "$work/lines.$n" "$root/samples/$name.txt" "$block")
+        if [ -n "$wrong" ]; then fail "the page: $name, $wrong"; else pass; fi
+    fi
+    if [ -s "$work/answer.$n" ]; then
+        case $kind in
+            last:) tail -n 1 "$said" >"$work/want" ;;
+            *) cp "$said" "$work/want" ;;
+        esac
+        if cmp -s "$work/answer.$n" "$work/want"; then
+            pass
+        else
+            fail "the page: $name, $(differ "$work/want" "$work/answer.$n")"
+        fi
+    fi
+done <"$work/list"
+
+# --- Every name on the page is a sample's, and every sample is named there.
+awk '{
+    while (match($0, /`(hour|day|import)\/[a-z0-9-]+`/)) {
+        print substr($0, RSTART + 1, RLENGTH - 2)
+        $0 = substr($0, RSTART + RLENGTH)
+    }
+}' "$page" | sort -u >"$work/named"
+(cd "$root/samples" && ls hour/*.txt day/*.txt import/*.txt) | sed 's/\.txt$//' | sort -u >"$work/there"
+for name in $(comm -23 "$work/named" "$work/there"); do
+    fail "the page names $name, which is no sample"
+done
+for name in $(comm -13 "$work/named" "$work/there"); do
+    fail "the page does not name $name"
+done
+[ -s "$work/named" ] && pass
+
+echo "$passed passed, $failed failed"
+[ "$failed" -eq 0 ]
