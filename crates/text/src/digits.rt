@@ -3,7 +3,7 @@ ghost use mathlib.Core.Path.{_≡_};
 ghost use Prim.Native.Nat.{_<_};
 ghost use lib.IntN.{pos, negℤ};
 ghost use Rattle.text.specs.Number.{moreDigits, naturalAt, Small};
-use crate::digit_at;
+use crate::byte_at;
 
 // Digits and the place after them, or none.
 pub enum Digits {
@@ -20,11 +20,14 @@ pub fn more_digits(s: &[u8], at: usize, first: u64) -> Digits
     let mut i = at;
     let mut left: u64 = 6;
     while 0 < left {
-        let d = digit_at(s, i);
-        if d == 10 {
+        let b = byte_at(s, i);
+        if b < 48 {
             return Digits::Natural(v, i);
         }
-        v = v * 10 + d;
+        if 57 < b {
+            return Digits::Natural(v, i);
+        }
+        v = v * 10 + (b - 48);
         i += 1;
         left -= 1;
     }
@@ -35,14 +38,17 @@ pub fn more_digits(s: &[u8], at: usize, first: u64) -> Digits
 pub fn natural_at(s: &[u8], at: usize) -> Digits
     ensures { λ r. ⌜ (r ≡ naturalAt (now (s .entry)) at) × Small r ⌝ }
 {
-    let d = digit_at(s, at);
-    if d == 10 {
+    let b = byte_at(s, at);
+    if b < 48 {
         return Digits::NoDigits;
     }
-    if d == 0 {
+    if 57 < b {
+        return Digits::NoDigits;
+    }
+    if b == 48 {
         return Digits::Natural(0, at + 1);
     }
-    more_digits(s, at + 1, d)
+    more_digits(s, at + 1, b - 48)
 }
 
 pub fn positive(v: u64) -> i64

@@ -40,43 +40,53 @@ pub fn digit_at(s: &[u8], at: usize) -> u64
     b - 48
 }
 
-// The one parser of numbers.
+// The one parser of numbers. The digits are read at one place of the code, and their sign is put on afterwards.
 pub fn number_at(s: &[u8], at: usize) -> Number
     ensures { λ r. ⌜ r ≡ numberAt (now (s .entry)) at ⌝ }
 {
-    if byte_at(s, at) == 45 {
-        let n = digits::natural_at(s, at + 1);
-        match n {
-            Digits::Natural(v, next) => {
-                if v == 0 {
-                    return Number::Bad;
-                }
-                Number::Got(digits::negative(v), next)
+    let b = byte_at(s, at);
+    let mut first = at;
+    if b == 45 {
+        first = at + 1;
+    }
+    let n = digits::natural_at(s, first);
+    match n {
+        Digits::Natural(v, next) => {
+            if b != 45 {
+                return Number::Got(digits::positive(v), next);
             }
-            Digits::NoDigits => Number::Bad,
+            if v == 0 {
+                return Number::Bad;
+            }
+            Number::Got(digits::negative(v), next)
         }
-    } else {
-        let n = digits::natural_at(s, at);
-        match n {
-            Digits::Natural(v, next) => Number::Got(digits::positive(v), next),
-            Digits::NoDigits => Number::Bad,
-        }
+        Digits::NoDigits => Number::Bad,
     }
 }
 
-// A key, a fixed byte string, compared at the cursor.
+// A key, a fixed byte string, compared at the cursor. Its length is tested once, behind its first byte, and not at each byte.
 pub fn key_at(s: &[u8], at: usize, key: &[u8]) -> Next
     ensures { λ r. ⌜ r ≡ keyAt (now (key .entry)) (now (s .entry)) at ⌝ }
 {
-    let mut i = at;
-    let mut j: usize = 0;
-    while j < key.len() {
-        let k = key[j] as u64;
-        if byte_at(s, i) != k {
+    let n = key.len();
+    if n == 0 {
+        return Next::At(at);
+    }
+    let k = key[0] as u64;
+    if byte_at(s, at) != k {
+        return Next::Wrong;
+    }
+    if s.len() - at < n {
+        return Next::Wrong;
+    }
+    let end = at + n;
+    let here = &s[at..end];
+    let mut j: usize = 1;
+    while j < n {
+        if here[j] != key[j] {
             return Next::Wrong;
         }
-        i += 1;
         j += 1;
     }
-    Next::At(i)
+    Next::At(end)
 }

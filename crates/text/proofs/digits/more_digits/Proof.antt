@@ -5,7 +5,16 @@ use Prim.Native.Nat.{_<_, _≤_, _-_, _^_}
 use native.Mathlib.Omega.{arith}
 use borrow.Author.Needs.{needs}
 use Rattle.text.specs.Number.{moreDigits}
-use Rattle.text.proofs.Numbers.{digit-inside, more-stops, more-ends, more-goes-on, digits-more, digits-fit}
+use Rattle.text.proofs.Numbers.{
+  read-inside,
+  below-digits,
+  above-digits,
+  more-stops,
+  more-ends,
+  byte-goes-on,
+  digits-more,
+  digits-fit,
+}
 use Rattle.text.proofs.digits.more_digits.Statement.{statement}
 use Rattle.text.proofs.digits.more_digits.Tie as tie
 
@@ -18,22 +27,33 @@ abbrev μ-loop : tie.MeasureT-loop
 loop-holds : tie.Need-loop-holds Inv-loop μ-loop
 loop-holds c = (refl, c .before .pre, omega arith)
 
-digit-at-requires : tie.Need-digit-at-requires Inv-loop μ-loop
-digit-at-requires c κs = search needs
+byte-at-requires : tie.Need-byte-at-requires Inv-loop μ-loop
+byte-at-requires c κs = search needs
 
 returns : tie.Need-returns Inv-loop μ-loop
 returns c =
     let l = c .before .before .before .loop in
-    (sym (l .inv .0 ∙ more-stops _ _ _ _ (sym (c .before .digit-at .ensures .0) ∙ c .if1 .taken)), digits-fit _ _ (l .inv .1))
+    let none = below-digits _ _ _ (c .before .byte-at .ensures) (c .if1 .taken) in
+    (sym (l .inv .0 ∙ more-stops _ _ _ _ none), digits-fit _ _ (l .inv .1))
+
+returns-2 : tie.Need-returns-2 Inv-loop μ-loop
+returns-2 c =
+    let d = c .before .before in
+    let l = d .before .before .loop in
+    let none = above-digits _ _ _ (d .byte-at .ensures) (c .before .if1 .left) (c .if2 .taken) in
+    (sym (l .inv .0 ∙ more-stops _ _ _ _ none), digits-fit _ _ (l .inv .1))
 
 mul-v : tie.Need-mul-v Inv-loop μ-loop
-mul-v c = omega (arith, digits-fit _ _ (c .before .before .before .loop .inv .1))
+mul-v c = omega (arith, digits-fit _ _ (c .before .before .before .before .loop .inv .1))
 
 add-v : tie.Need-add-v Inv-loop μ-loop
-add-v c = omega (arith, digits-fit _ _ (c .before .before .before .loop .inv .1))
+add-v c = omega (arith, digits-fit _ _ (c .before .before .before .before .loop .inv .1))
 
 add-i : tie.Need-add-i Inv-loop μ-loop
-add-i c = omega (arith, digit-inside _ _ (λ e. c .if1 .left (c .before .digit-at .ensures .0 ∙ e)))
+add-i c =
+    let d = c .before .before in
+    let l = d .before .before in
+    omega (arith, read-inside (l .before .before .args .s .now) (l .loop .i) _ (d .byte-at .ensures) (c .if2 .left))
 
 sub-left : tie.Need-sub-left Inv-loop μ-loop
 sub-left c = search needs
@@ -43,16 +63,16 @@ loop-less c = search needs
 
 loop-again : tie.Need-loop-again Inv-loop μ-loop
 loop-again c =
-    let l = c .before .before .before .loop in
-    let d = c .before .digit-at in
-    let more = c .before .before .loop-test .taken in (
-      rw (d .ensures .0) (l .inv .0 ∙ more-goes-on _ _ _ _ more (λ e. c .if1 .left (d .ensures .0 ∙ e))),
+    let d = c .before .before in
+    let l = d .before .before .loop in
+    let more = d .before .loop-test .taken in (
+      l .inv .0 ∙ byte-goes-on _ _ _ (d .byte-at .ensures) _ _ more (c .before .if1 .left) (c .if2 .left),
       digits-more _ _ _ more (l .inv .2) (l .inv .1) (omega arith),
       omega arith,
     )
 
-returns-2 : tie.Need-returns-2 Inv-loop μ-loop
-returns-2 c = (sym (c .before .loop .inv .0 ∙ more-ends _ _ _ _ (c .loop-test .left)), digits-fit _ _ (c .before .loop .inv .1))
+returns-3 : tie.Need-returns-3 Inv-loop μ-loop
+returns-3 c = (sym (c .before .loop .inv .0 ∙ more-ends _ _ _ _ (c .loop-test .left)), digits-fit _ _ (c .before .loop .inv .1))
 
 pub more-digits-spec : {M : Type 1} → statement M
 more-digits-spec =
@@ -61,12 +81,13 @@ more-digits-spec =
     Inv-loop
     μ-loop
     loop-holds
-    digit-at-requires
+    byte-at-requires
     returns
+    returns-2
     mul-v
     add-v
     add-i
     sub-left
     loop-less
     loop-again
-    returns-2)
+    returns-3)
