@@ -1,9 +1,9 @@
--- The theorems of an import's text: what does not count, what refuses the day and where, what it pays, and which bytes are read.
+-- The theorems of an import's text: what does not count, what refuses the day and where, what it pays, which bytes are read, and bounded memory.
 use mathlib.Core.Path.{_≡_}
 use mathlib.Core.Bool.{true, false}
 use mathlib.Core.List.{List, [], _∷_, _++_}
 use mathlib.Core.Logic.{_↔_}
-use Prim.Native.Nat.{ℕ, _<_, _≤_}
+use Prim.Native.Nat.{ℕ, suc, _<_, _≤_}
 use lib.IntN.{ℤ, pos}
 use lib.Signed.{_≤ℤ_}
 use lib.ListN.{take}
@@ -13,6 +13,7 @@ use Rattle.tariff.specs.Import.{Where, outside, inHour, paid, refused}
 use Rattle.tariff.proofs.ImportDays.{FirstRefused}
 use Rattle.lines.specs.Line.{isAt, lineAt}
 use Rattle.lines.specs.Pieces.{firstPiece, piece}
+use Rattle.intake.specs.Intake.{keptOf, atFirst}
 use Rattle.imports.specs.Import.{headPlace, ctsIn, headFault, importBody, importBlockAt, importReply}
 use Rattle.imports.specs.Demand.{blockIn, partIn, surplusIn, SameHead, BlocksAlike}
 use Rattle.imports.proofs.Closing.{piece-decides, closed-or-ended}
@@ -20,6 +21,7 @@ use Rattle.imports.proofs.Local.{decided}
 use Rattle.imports.proofs.Forms.{head-form1, head-form2}
 use Rattle.imports.proofs.Uncounted.{replies-alike}
 use Rattle.imports.proofs.Replies.{FirstBroken, Surplus, PaidBy, head-exactly, refused-exactly, form-exactly, surplus-exactly, paid-exactly, same-refusal}
+use Rattle.imports.proofs.KeptImport.{import-settled}
 use Rattle.imports.proofs.Payments.{paid-least, cts-nothing, cts-checks}
 
 -- ---- which intervals count
@@ -116,3 +118,10 @@ the-end-closes = closed-or-ended
 -- A block is decided by its first 16,384 bytes: a program that reads no more of a block of any length has its exact answer.
 pub first-bytes-decide : (s : List ℕ) → importBlockAt (take 16384 s) 0 ≡ importBlockAt s 0
 first-bytes-decide = decided
+
+-- ---- bounded memory
+
+-- An import is settled alike from what is kept of its text, of any length: the first two lines and each block up to its first 16,384 bytes
+-- and its empty line, and a byte of what follows.
+pub a-kept-import-is-settled-alike : (hours : ℕ) (s : List ℕ) → importReply hours (keptOf (atFirst (suc hours)) s) ≡ importReply hours s
+a-kept-import-is-settled-alike = import-settled

@@ -1,0 +1,142 @@
+-- The first two lines of an import are decided by their first piece, and by their first 16,384 bytes, whether they are refused or not.
+use mathlib.Core.Path.{_≡_, refl, sym, _∙_, ap}
+use mathlib.Core.Bool.{true, false≢true, _&&_}
+use mathlib.Core.List.{List}
+use Prim.Native.Nat.{ℕ, _<_, _≤_}
+use native.Mathlib.Omega.{arith}
+use lib.ListN.{take, drop}
+use lib.Seq.{getD-take}
+use Rattle.tariff.specs.Reply.{clear, unless, _then_}
+use Rattle.tariff.specs.Import.{isMark, isName}
+use Rattle.tariff.proofs.Checks.{then-clear, unless-clear}
+use Rattle.text.specs.Text.{byteAt, keyAt}
+use Rattle.text.specs.declared.Next.{Next}
+use Rattle.text.specs.declared.Next.the-variants.{At, Wrong}
+use Rattle.lines.specs.Line.{isAt, placeIn, andThen, lineFeed, lineAt}
+use Rattle.lines.specs.Cut.{emptyIn, behind}
+use Rattle.lines.specs.Pieces.{upToPlace, firstPiece}
+use Rattle.lines.proofs.Along.{closing, Along, Moved, both, neither, went, moved-then, fields-along, values-along}
+use Rattle.lines.proofs.Ended.{feed-along}
+use Rattle.lines.proofs.Cut.{behind-at, behind-range}
+use Rattle.lines.proofs.Pieces.{Shares, whole, empty, lines, piece-shares}
+use Rattle.lines.proofs.Agree.{SamePlace, goes, stops, goes-on, value, line, feed}
+use Rattle.intake.proofs.Kept.{FirstKept, short, long}
+use Rattle.imports.specs.Import.{headPlace, nameIn, ctsIn, headFault, importBody}
+use Rattle.imports.specs.Demand.{SameHead}
+use Rattle.imports.proofs.Passed.{feed-empty, line-passed}
+
+-- line 1 of two texts: the place behind it, and its two values
+record SameLine (s t : List ℕ) : Type 0 where
+  place : lineAt 36 2 s 0 ≡ lineAt 36 2 t 0
+  name : nameIn s ≡ nameIn t
+  cts : ctsIn s ≡ ctsIn t
+
+same-head : {s t : List ℕ} → SameLine s t → headPlace s ≡ headPlace t → SameHead s t
+unfolding headFault
+same-head o e = record { fault = rw (o .place, o .name, o .cts, e); name = o .name; cts = o .cts }
+
+-- ---- by the first bytes: line 1 has 2 fields and at most 33 bytes
+module _ (s t : List ℕ) (N : ℕ) (agree : (i : ℕ) → i < N → byteAt s i ≡ byteAt t i) (enough : 34 ≤ N) where
+  same-place : {m : ℕ} {x y : Next} → SamePlace m x y → x ≡ y
+  same-place (goes i l) = refl
+  same-place stops = refl
+
+  first-line : SamePlace 33 (lineAt 36 2 s 0) (lineAt 36 2 t 0)
+  first-line = line s t N agree 36 2 0 33 (omega arith) (omega arith)
+
+  agreed-head : SameHead s t
+  unfolding headPlace
+  agreed-head = same-head
+      (record {
+        place = same-place first-line;
+        name = value s t N agree 36 0 0 (omega arith);
+        cts = value s t N agree 36 1 0 (omega arith);
+      })
+      (same-place (goes-on _ _ first-line (λ i l. feed s t N agree i N (omega arith) (omega arith))))
+
+first-bytes : (s : List ℕ) → SameHead (take 16384 s) s
+first-bytes s = agreed-head (take 16384 s) s 16384 (λ i h. getD-take 16384 s i 256 h) (omega arith)
+
+-- ---- by the first piece
+module _ {s t : List ℕ} where
+  along-line : (m : ℕ) → Along s t 0 0 m → SameLine s t
+  unfolding lineAt
+  along-line m o = record {
+    place = unmoved (moved-then _ _ (fields-along o 36 2 0 (omega arith)) (feed-along o));
+    name = values-along o 36 0 0 (omega arith);
+    cts = values-along o 36 1 0 (omega arith);
+  }
+    where
+      unmoved : {k : ℕ} {x y : Next} → Moved 0 0 k x y → x ≡ y
+      unmoved (both j l) = refl
+      unmoved neither = refl
+
+  shared-line : Shares s t → SameLine s t
+  shared-line (whole e) = record {
+    place = ap (λ (l : List ℕ). lineAt 36 2 l 0) e;
+    name = ap (λ (l : List ℕ). nameIn l) e;
+    cts = ap (λ (l : List ℕ). ctsIn l) e;
+  }
+  shared-line (empty f g) = along-line 0 (record { same = λ i l. let z : i ≡ 0 = omega arith in rw z (f ∙ sym g); stop = ap closing f })
+  shared-line (lines m o) = along-line m (o .along)
+
+module _ (s : List ℕ) where
+  piece-line : SameLine s (firstPiece s)
+  piece-line = shared-line (piece-shares s)
+
+  -- behind line 1 stands a byte of the first piece, for that line holds no empty one
+  cut-place : (i : ℕ) → emptyIn true s 0 ≡ At i → lineAt 36 2 s 0 ≡ lineAt 36 2 (take i s) 0 → headPlace s ≡ headPlace (take i s)
+  unfolding headPlace keyAt
+  cut-place i e same = go (lineAt 36 2 s 0) refl
+    where
+      go : (x : Next) → lineAt 36 2 s 0 ≡ x → andThen (lineAt 36 2 s 0) (lineFeed s) ≡ andThen (lineAt 36 2 (take i s) 0) (lineFeed (take i s))
+      go (At j) q =
+          let inside = behind-range s j i true (sym (line-passed s 36 1 refl j q) ∙ e) .0 in
+          rw (← same, q, getD-take i s j 256 inside)
+      go Wrong q = rw (← same, q)
+
+  piece-place : headPlace s ≡ headPlace (firstPiece s)
+  unfolding firstPiece
+  piece-place = go (emptyIn true s 0) refl (piece-line .place)
+    where
+      go : (x : Next) → emptyIn true s 0 ≡ x → lineAt 36 2 s 0 ≡ lineAt 36 2 (upToPlace x s) 0 → headPlace s ≡ headPlace (upToPlace x s)
+      go (At i) e same = cut-place i e same
+      go Wrong e same = refl
+
+  first-head : SameHead s (firstPiece s)
+  first-head = same-head piece-line piece-place
+
+-- ---- so what is kept of them is enough
+turned : {s t : List ℕ} → SameHead s t → SameHead t s
+turned o = record { fault = sym (o .fault); name = sym (o .name); cts = sym (o .cts) }
+
+-- each says what a part of it says, and that is the same part
+via : {s t p q : List ℕ} → SameHead s p → SameHead t q → p ≡ q → SameHead s t
+via a b e = record {
+  fault = a .fault ∙ ap headFault e ∙ sym (b .fault);
+  name = a .name ∙ ap (λ (l : List ℕ). nameIn l) e ∙ sym (b .name);
+  cts = a .cts ∙ ap (λ (l : List ℕ). ctsIn l) e ∙ sym (b .cts);
+}
+
+pub head-kept : {got text : List ℕ} → FirstKept got text → SameHead got text
+head-kept {got} {text} (short e) = via (first-head got) (first-head text) e
+head-kept {got} {text} (long e) = via (turned (first-bytes got)) (turned (first-bytes text)) e
+
+-- ---- behind a head that is not refused stands what stands behind the first empty line
+module _ (s : List ℕ) where
+  place-behind : (x : Next) → headPlace s ≡ x → isAt x ≡ true → drop (placeIn x) s ≡ behind s
+  unfolding headPlace
+  place-behind (At k) e u =
+      let front = went (lineAt 36 2 s 0) (lineFeed s) k e in
+      let j = front .0 in
+      let next = ap (λ (y : Next). andThen y (lineFeed s)) (sym (front .1)) ∙ e in
+      behind-at s 0 k (line-passed s 36 1 refl j (front .1) ∙ feed-empty s j k next)
+  place-behind Wrong e u = absurd (false≢true u)
+
+  pub clear-behind : headFault s ≡ clear → importBody s ≡ behind s
+  unfolding headFault
+  clear-behind e =
+      let ranges = unless (isName (nameIn s) && isMark (ctsIn s)) 2 1 in
+      let second = unless (isAt (headPlace s)) 1 2 in
+      let rest = then-clear (unless (isAt (lineAt 36 2 s 0)) 1 1) (second then ranges) e .1 in
+      place-behind (headPlace s) refl (unless-clear (isAt (headPlace s)) 1 2 (then-clear second ranges rest .0))
