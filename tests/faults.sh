@@ -8,22 +8,13 @@
 # The answers are held against the second program's, from second/target/release
 # beside this script. The last line counts what passed and what failed; the
 # exit status is 1 if anything failed.
-set -u
-LC_ALL=C
-export LC_ALL
-
-if [ $# -ne 3 ]; then
-    echo "usage: sh faults.sh PATH-OF-HOUR PATH-OF-DAY PATH-OF-IMPORT" >&2
-    exit 2
-fi
 here=$(dirname -- "$0")
-for program in "$1" "$2" "$3" "$here/second/target/release/hour2" \
-    "$here/second/target/release/day2" "$here/second/target/release/import2"; do
-    if ! command -v "$program" >/dev/null; then
-        echo "no program $program" >&2
-        exit 2
-    fi
-done
+. "$here/common.sh"
+
+[ $# -eq 3 ] || usage "faults.sh PATH-OF-HOUR PATH-OF-DAY PATH-OF-IMPORT"
+release=$here/second/target/release
+need "$1" "$2" "$3" "$release/hour2" "$release/day2" "$release/import2"
+work_in faults
 
 . "$here/faults/common.sh"
 . "$here/faults/ends.sh"
@@ -37,5 +28,4 @@ take day "$2"
 take import "$3"
 . "$here/faults/import.sh"
 
-echo "$passed passed, $failed failed"
-[ "$failed" -eq 0 ]
+finish

@@ -15,56 +15,16 @@
 #   cell, and in "NAME prints ANSWER" that line follows.
 # Every name is a sample's, and every sample is named. The last line counts what
 # passed and what failed; the status is 1 if anything failed.
-set -u
-LC_ALL=C
-export LC_ALL
+. "$(dirname -- "$0")/common.sh"
 
-if [ $# -ne 3 ]; then
-    echo "usage: sh samples.sh PATH-OF-HOUR PATH-OF-DAY PATH-OF-IMPORT" >&2
-    exit 2
-fi
-for program in "$1" "$2" "$3"; do
-    if ! command -v "$program" >/dev/null; then
-        echo "no program $program" >&2
-        exit 2
-    fi
-done
+[ $# -eq 3 ] || usage "samples.sh PATH-OF-HOUR PATH-OF-DAY PATH-OF-IMPORT"
+need "$@"
+work_in samples
 hour=$1
 day=$2
 import=$3
 root=$(dirname -- "$0")/..
 page=$root/docs/answers.md
-
-work=target/samples.$$
-mkdir -p "$work" || exit 2
-trap 'rm -rf "$work"; rmdir target 2>/dev/null' EXIT
-trap 'exit 2' HUP INT TERM
-
-passed=0
-failed=0
-
-# A program that has not ended after so many seconds is ended: status 124.
-if command -v timeout >/dev/null; then
-    within() { timeout "$@"; }
-else
-    within() { shift; "$@"; }
-fi
-
-pass() {
-    passed=$((passed + 1))
-}
-
-fail() {
-    failed=$((failed + 1))
-    echo "failed: $1"
-}
-
-# The first line at which two files differ, for the message.
-differ() {
-    awk 'NR == FNR { want[FNR] = $0; n = FNR; next }
-        $0 != want[FNR] && !said { printf "line %d is \"%s\", not \"%s\"", FNR, $0, want[FNR]; said = 1 }
-        END { if (!said) printf "%d lines, not %d, or another end", FNR, n }' "$1" "$2"
-}
 
 # --- Each sample through its program.
 for name in hour day import; do
@@ -76,19 +36,12 @@ for name in hour day import; do
     for text in "$root/samples/$name"/*.txt; do
         said=${text%.txt}.out
         label=$name/$(basename "$text" .txt)
-        within 20 "$program" <"$text" >"$work/got" 2>"$work/err"
-        status=$?
-        if [ "$status" -ne 0 ]; then
-            fail "$label: status $status"
-        elif [ -s "$work/err" ]; then
-            fail "$label: $(head -n 1 "$work/err")"
-        elif [ ! -f "$said" ]; then
+        if [ ! -f "$said" ]; then
             fail "$label: no .out"
-        elif ! cmp -s "$work/got" "$said"; then
-            fail "$label: $(differ "$said" "$work/got")"
-        else
-            pass
+            continue
         fi
+        within 20 "$program" <"$text" >"$work/got" 2>"$work/err"
+        answered "$label" "$said"
     done
     for said in "$root/samples/$name"/*.out; do
         [ -f "${said%.out}.txt" ] || fail "$name/$(basename "$said" .out): no .txt"
@@ -182,7 +135,7 @@ while read -r n kind name block; do
         if cmp -s "$work/answer.$n" "$work/want"; then
             pass
         else
-            fail "the page: $name, $(differ "$work/want" "$work/answer.$n")"
+            fail "the page: $name, $(differ "$work/answer.$n" "$work/want")"
         fi
     fi
 done <"$work/list"
@@ -203,5 +156,4 @@ for name in $(comm -13 "$work/named" "$work/there"); do
 done
 [ -s "$work/named" ] && pass
 
-echo "$passed passed, $failed failed"
-[ "$failed" -eq 0 ]
+finish

@@ -9,14 +9,9 @@
 # And the page is whole: it names each theorem of the front pages and of every
 # Unique.antt, each must-fail edit and each public function. The last line
 # counts what passed and what failed; the status is 1 if anything failed.
-set -u
-LC_ALL=C
-export LC_ALL
+. "$(dirname -- "$0")/common.sh"
 
-if [ $# -gt 1 ]; then
-    echo "usage: sh trace.sh [PAGE]" >&2
-    exit 2
-fi
+[ $# -le 1 ] || usage "trace.sh [PAGE]"
 root=$(cd "$(dirname -- "$0")/.." && pwd) || exit 2
 page=${1:-$root/docs/trace.md}
 case $page in
@@ -33,23 +28,8 @@ cd "$root" || exit 2
 fronts='tariff/proofs/Demands tariff/proofs/Imports sheet/proofs/BlockDemands
     marks/proofs/Far ledger/proofs/DayDemands imports/proofs/ImportDemands'
 
-work=target/trace.$$
-mkdir -p "$work" || exit 2
-trap 'rm -rf "$work"; rmdir target 2>/dev/null' EXIT
-trap 'exit 2' HUP INT TERM
+work_in trace
 tab=$(printf '\t')
-
-passed=0
-failed=0
-
-pass() {
-    passed=$((passed + 1))
-}
-
-fail() {
-    failed=$((failed + 1))
-    echo "failed: $1"
-}
 
 # --- The references: a path, a tab, and the name or nothing.
 awk '{
@@ -155,5 +135,4 @@ while IFS=$tab read -r path name; do
 done <"$work/unnamed"
 passed=$((passed + $(comm -12 "$work/wanted" "$work/refs" | wc -l)))
 
-echo "$passed passed, $failed failed"
-[ "$failed" -eq 0 ]
+finish

@@ -1,23 +1,10 @@
-# What the tests of the three programs share: how a program is run, how it is
-# judged, and the bytes that texts are made of. Read by faults.sh.
+# What the faults of the three programs share: how a program is run, how it is
+# judged, and the bytes that texts are made of. Read by faults.sh, behind the
+# common.sh of all scripts.
 
-work=target/faults.$$
-mkdir -p "$work" || exit 2
-trap 'rm -rf "$work"; rmdir target 2>/dev/null' EXIT
-trap 'exit 2' HUP INT TERM
 mkfifo "$work/pipe" || exit 2
 
-passed=0
-failed=0
-
 # --- How a program is run.
-
-# A program that has not ended after so many seconds is ended: status 124.
-if command -v timeout >/dev/null; then
-    within() { timeout "$@"; }
-else
-    within() { shift; "$@"; }
-fi
 
 # What a run may take of memory, in kB, however long its input is. It is less
 # than the long inputs, so that a program that keeps them is found out.
@@ -33,9 +20,9 @@ fi
 # program keeps all its input in memory and reads it to the end. Where it is
 # itself under test, memory has no limit and no input is endless.
 take() {
-    name=$1
+    about="$1: "
     program=$2
-    second=$here/second/target/release/${name}2
+    second=$release/${1}2
     frugal=yes
     limit=$can_limit
     if cmp -s "$(command -v "$program")" "$second"; then
@@ -70,34 +57,11 @@ held_open() {
     return "$status"
 }
 
-# --- How it is judged. Each of these stands directly behind a run.
+# --- How it is judged.
 
-pass() {
-    passed=$((passed + 1))
-}
-
-fail() {
-    failed=$((failed + 1))
-    echo "failed: $name: $1"
-}
-
-# The answer in $work/got has to be the one in $work/want, with status 0 and
-# nothing on standard error.
-answered() {
-    status=$?
-    if [ "$status" -ne 0 ]; then
-        fail "$1: status $status"
-    elif [ -s "$work/err" ]; then
-        fail "$1: $(head -n 1 "$work/err")"
-    elif ! cmp -s "$work/got" "$work/want"; then
-        fail "$1: $(diff "$work/got" "$work/want" | grep '^[<>]' | head -n 4 | tr '\n' ' ')"
-    else
-        pass
-    fi
-}
-
-# The program has to have ended by itself, without a panic, a signal or a
-# message. It may say by its status that it could not do its work.
+# Stands directly behind a run. The program has to have ended by itself, without
+# a panic, a signal or a message. It may say by its status that it could not do
+# its work.
 ended() {
     status=$?
     if [ "$status" -eq 101 ] || [ "$status" -ge 124 ]; then

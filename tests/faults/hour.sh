@@ -1,21 +1,7 @@
 # `hour`: it stops at its block's empty line, and what follows is not read.
 
-cat >"$work/block" <<'END'
-hour=14 en=100000 reg=0 r1=0 r2=0 r3=0 breg=0 b1=0 b2=0 b3=0
-da=0 n=2 to=60000 at=2000 to=100000 at=3500
-rt=0 n=2 to=60000 at=2000 to=120000 at=4000
-s=900 en=80000 ae=80000 co=0 eop=90000 pen=5000 lim=70000 uol=- r1=0 r2=0 r3=0 p1=0 p2=0 p3=0 reg=0 preg=0 breg=0 mv=0 pmv=0 bmv=0
-s=900 en=50000 ae=70000 co=3000 eop=90000 pen=5000 lim=45000 uol=- r1=0 r2=0 r3=0 p1=0 p2=0 p3=0 reg=0 preg=0 breg=0 mv=0 pmv=0 bmv=0
-s=900 en=110000 ae=110000 co=0 eop=120000 pen=5000 lim=100000 uol=- r1=0 r2=0 r3=0 p1=0 p2=0 p3=0 reg=0 preg=0 breg=0 mv=0 pmv=0 bmv=0
-s=900 en=100000 ae=95000 co=0 eop=100000 pen=5000 lim=95000 uol=- r1=0 r2=0 r3=0 p1=0 p2=0 p3=0 reg=0 preg=0 breg=0 mv=0 pmv=0 bmv=0
-END
-cat >"$work/paid" <<'END'
-i=1 grains=27000000000
-i=2 grains=72900000000
-i=3 grains=-9000000000
-i=4 grains=0
-hour=14 pay=25250
-END
+cp "$here/../samples/hour/sample.txt" "$work/block" || exit 2
+cp "$here/../samples/hour/sample.out" "$work/paid" || exit 2
 { cat "$work/block"; echo; } >"$work/closed"
 size=$(size_of "$work/closed")
 

@@ -94,6 +94,14 @@ impl Sheet {
         text
     }
 
+    /// Ends the text within a line, of whose bytes so many stay.
+    pub fn end_in(&mut self, line: usize, stay: impl FnOnce(usize) -> usize) {
+        self.lines.truncate(line + 1);
+        self.ended = false;
+        let last = &mut self.lines[line];
+        last.truncate(stay(last.len()));
+    }
+
     /// A line, any of them; lines that differ from all others (the first four
     /// and the last) come up more often than their share.
     pub fn any_line(&self, rng: &mut Rng) -> usize {
@@ -501,15 +509,11 @@ fn end_anywhere(rng: &mut Rng, mut text: Vec<u8>) -> Vec<u8> {
 fn end_in_a_line(rng: &mut Rng, text: Vec<u8>) -> Vec<u8> {
     on_lines(rng, text, |rng, sheet| {
         let line = sheet.any_line(rng);
-        sheet.lines.truncate(line + 1);
-        sheet.ended = false;
-        let last = &mut sheet.lines[line];
-        let end = match rng.below(3) {
-            0 => last.len(),
-            1 => last.len().saturating_sub(1),
-            _ => rng.below(last.len() + 1),
-        };
-        last.truncate(end);
+        sheet.end_in(line, |length| match rng.below(3) {
+            0 => length,
+            1 => length.saturating_sub(1),
+            _ => rng.below(length + 1),
+        });
     })
 }
 

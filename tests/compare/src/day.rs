@@ -7,7 +7,8 @@ use crate::damage::{self, set_value, Sheet, NO_NUMBERS};
 use crate::events;
 use crate::hour;
 use crate::hours::{self, still};
-use crate::plan::{Program, Recipe};
+use crate::pieces::{self, each_hour};
+use crate::plan::{recipe, Program, Recipe};
 use crate::random::Rng;
 use crate::same::{self, Bond, Pair};
 
@@ -21,10 +22,6 @@ pub const PROGRAM: Program = Program {
     pair,
 };
 
-const fn recipe(name: &'static str, share: usize, make: fn(&mut Rng, usize) -> Vec<u8>) -> Recipe {
-    Recipe { name, share, make }
-}
-
 const RECIPES: &[Recipe] = &[
     recipe("days", 4, |rng, _| good(rng)),
     recipe("one mark", 6, one_mark),
@@ -37,7 +34,9 @@ const RECIPES: &[Recipe] = &[
     recipe("blocks out of order", 3, out_of_order),
     recipe("surplus", 2, surplus),
     recipe("damage", 5, |rng, _| damaged(rng)),
-    recipe("noise", 1, |rng, _| noise(rng)),
+    recipe("noise", 1, |rng, _| {
+        pieces::noise(rng, |rng| header(rng).to_text())
+    }),
 ];
 
 /// Lines of a header in front of the empty one.
@@ -92,29 +91,22 @@ fn paying(hour: usize) -> HourRecord {
     record
 }
 
-/// An hour of any kind, short as a day has many, for its place.
-fn short(rng: &mut Rng, place: usize) -> HourRecord {
+/// An hour of any kind, short as a day has many.
+fn short(rng: &mut Rng) -> HourRecord {
     let count = 4 + rng.below(3);
-    let mut record = hours::any_of(rng, count);
-    record.day_ahead.hour = place as i64;
-    record
+    hours::any_of(rng, count)
 }
 
 fn sheet(header: &Header, hours: &[HourRecord]) -> Vec<u8> {
-    let mut text = header.to_text();
-    for hour in hours {
-        text += &hour.to_text();
-        text.push('\n');
-    }
-    text.into_bytes()
+    pieces::text(&header.to_text(), hours)
 }
 
 fn all_paying() -> Vec<HourRecord> {
-    (0..HOURS).map(paying).collect()
+    each_hour(paying)
 }
 
 fn all_short(rng: &mut Rng) -> Vec<HourRecord> {
-    (0..HOURS).map(|place| short(rng, place)).collect()
+    each_hour(|_| short(rng))
 }
 
 fn good(rng: &mut Rng) -> Vec<u8> {
@@ -123,12 +115,7 @@ fn good(rng: &mut Rng) -> Vec<u8> {
         set_marks(rng, row, 60);
     }
     let hours = all_short(rng);
-    let mut text = sheet(&header, &hours);
-    if rng.once_in(2) {
-        // The end of the text closes the last block, too.
-        text.pop();
-    }
-    text
+    pieces::closed(rng, sheet(&header, &hours))
 }
 
 /// Every mark in every hour, with and without RTC.
@@ -235,18 +222,9 @@ fn header_out_of_range(rng: &mut Rng, turn: usize) -> Vec<u8> {
 /// Texts that end within the header.
 fn header_ends(rng: &mut Rng, turn: usize) -> Vec<u8> {
     let text = header(rng).to_text();
-    let mut sheet = Sheet::of(text.as_bytes());
+    let sheet = Sheet::of(text.as_bytes());
     let line = turn % (HEADER_LINES + 1);
-    sheet.lines.truncate(line + 1);
-    sheet.ended = false;
-    let last = &mut sheet.lines[line];
-    let end = match turn / (HEADER_LINES + 1) % 3 {
-        0 => last.len(),
-        1 => 0,
-        _ => rng.below(last.len() + 1),
-    };
-    last.truncate(end);
-    sheet.text()
+    pieces::end_in_line(rng, sheet, line, turn / (HEADER_LINES + 1))
 }
 
 /// Days of all the blocks that the program `hour` is tried with.
@@ -288,7 +266,7 @@ fn block_ends(rng: &mut Rng, turn: usize) -> Vec<u8> {
     let count = if turn % 3 == 2 { 30 } else { 4 + rng.below(4) };
     let mut record = hours::any_of(rng, count);
     record.day_ahead.hour = last as i64;
-    let mut block = Sheet::of(record.to_text().as_bytes());
+    let block = Sheet::of(record.to_text().as_bytes());
     let line = match turn % 6 {
         0 => 0,
         1 => 1,
@@ -297,56 +275,32 @@ fn block_ends(rng: &mut Rng, turn: usize) -> Vec<u8> {
         4 => 3,
         _ => 4 + rng.below(block.lines.len() - 4),
     };
-    block.lines.truncate(line + 1);
-    block.ended = false;
-    let line = &mut block.lines[line];
-    let end = match turn / 6 % 3 {
-        0 => line.len(),
-        1 => 0,
-        _ => rng.below(line.len() + 1),
-    };
-    line.truncate(end);
-    text.extend(block.text());
+    text.extend(pieces::end_in_line(rng, block, line, turn / 6));
     text
 }
 
 /// Blocks at other places than their hours say, absent, doubled and apart.
 fn out_of_order(rng: &mut Rng, turn: usize) -> Vec<u8> {
+    let header = Header::default();
     let mut hours = all_paying();
-    let one = rng.below(HOURS);
-    let other = rng.below(HOURS);
-    match turn % 6 {
-        0 => hours.swap(one, other),
-        1 => drop(hours.remove(one)),
-        2 => hours.insert(one, paying(one)),
-        3 => hours[one].day_ahead.hour = rng.between(0, 23),
-        4 => hours.truncate(one),
-        _ => {
-            // One more empty line is an empty block.
-            let mut text = sheet(&Header::default(), &hours[..one]);
-            text.push(b'\n');
-            text.extend(&sheet(&Header::default(), &hours[one..])[header_length()..]);
-            return text;
-        }
+    let kind = turn % (pieces::MISPLACED + 1);
+    if kind < pieces::MISPLACED {
+        pieces::misplace(rng, &mut hours, kind);
+        return sheet(&header, &hours);
     }
-    sheet(&Header::default(), &hours)
-}
-
-fn header_length() -> usize {
-    Header::default().to_text().len()
+    // One more empty line is an empty block.
+    let before = &hours[..rng.below(HOURS)];
+    let mut text = sheet(&header, &hours);
+    text.insert(sheet(&header, before).len(), b'\n');
+    text
 }
 
 /// Bytes behind the 24th block, or just none.
 fn surplus(rng: &mut Rng, turn: usize) -> Vec<u8> {
     let mut text = sheet(&header(rng), &all_paying());
     match turn % 6 {
-        0 => text.push(b'\n'),
-        1 => text.push(b'x'),
         2 => text.extend(paying(0).to_text().into_bytes()),
-        3 => {
-            let count = 1 + rng.below(30);
-            text.extend(rng.bytes(count));
-        }
+        kind @ (0 | 1 | 3) => text.extend(pieces::surplus(rng, kind)),
         4 => {
             // Without the empty line between it is one more interval.
             text.pop();
@@ -364,24 +318,7 @@ fn damaged(rng: &mut Rng) -> Vec<u8> {
     } else {
         all_short(rng)
     };
-    let mut text = sheet(&header, &hours);
-    for _ in 0..1 + rng.below(3) {
-        text = damage::any(rng, text);
-    }
-    text
-}
-
-fn noise(rng: &mut Rng) -> Vec<u8> {
-    let length = rng.pick(&[0, 1, 2, 10, 100, 3000]);
-    match rng.below(3) {
-        0 => rng.bytes(length),
-        1 => rng.bytes_of(damage::SHEET_BYTES, length),
-        _ => {
-            let mut text = header(rng).to_text().into_bytes();
-            text.extend(rng.bytes_of(b"\n\na", length));
-            text
-        }
-    }
+    pieces::damaged(rng, sheet(&header, &hours))
 }
 
 /// A line of its own.

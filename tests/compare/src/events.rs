@@ -90,14 +90,7 @@ pub fn of_import() -> Vec<Event> {
     events.extend(ranges(&ImportLine::default().numbers()));
     events.extend(ranges(&ImportHourLine::default().numbers()));
     events.extend(ranges(&ImportInterval::default().numbers()));
-    let tests = [
-        ImportTest::Counts,
-        ImportTest::Cts,
-        ImportTest::NotCut,
-        ImportTest::ProfileBelow,
-        ImportTest::BidAbove,
-    ];
-    events.extend(tests.map(Event::Import));
+    events.extend(ImportTest::ALL.map(Event::Import));
     events.extend(ORDERS.map(Event::ImportSum));
     events
 }

@@ -8,7 +8,7 @@ use second::{hour, Curve, DayAhead, HourRecord, Interval};
 use crate::damage::{self, set_value, with_surplus, Sheet, BROKEN_PAIRS, NO_NUMBERS};
 use crate::events;
 use crate::hours::{self, curve_of, hull, priced, still, sum_and_room, trim};
-use crate::plan::{Program, Recipe};
+use crate::plan::{recipe, Program, Recipe};
 use crate::random::Rng;
 use crate::same;
 
@@ -21,10 +21,6 @@ pub const PROGRAM: Program = Program {
     ends_at_empty_line: true,
     pair: same::of_hours,
 };
-
-const fn recipe(name: &'static str, share: usize, make: fn(&mut Rng, usize) -> Vec<u8>) -> Recipe {
-    Recipe { name, share, make }
-}
 
 const RECIPES: &[Recipe] = &[
     recipe("plants", 5, |rng, _| good(rng, hours::plant)),
@@ -603,16 +599,12 @@ fn damaged(rng: &mut Rng, turn: usize, kinds: &[damage::Damage]) -> Vec<u8> {
 /// A text that ends within one of its lines, or in front of it.
 fn end_in_line(rng: &mut Rng, turn: usize) -> Vec<u8> {
     let (mut sheet, line) = nth_line(rng, turn);
-    sheet.lines.truncate(line + 1);
-    sheet.ended = false;
-    let last = &mut sheet.lines[line];
-    let end = match turn / 6 % 4 {
-        0 => last.len(),
+    sheet.end_in(line, |length| match turn / 6 % 4 {
+        0 => length,
         1 => 0,
-        2 => 1 + rng.below(last.len()),
-        _ => last.len() - 1,
-    };
-    last.truncate(end);
+        2 => 1 + rng.below(length),
+        _ => length - 1,
+    });
     sheet.text()
 }
 

@@ -8,7 +8,8 @@ use second::text::{Number, Side, POWER, PRICE};
 use crate::damage::{self, set_value, Sheet, BROKEN_PAIRS, NO_NUMBERS};
 use crate::events;
 use crate::hours;
-use crate::plan::{Program, Recipe};
+use crate::pieces::{self, each_hour};
+use crate::plan::{recipe, Program, Recipe};
 use crate::random::Rng;
 use crate::same::{Bond, Pair};
 
@@ -21,10 +22,6 @@ pub const PROGRAM: Program = Program {
     ends_at_empty_line: false,
     pair,
 };
-
-const fn recipe(name: &'static str, share: usize, make: fn(&mut Rng, usize) -> Vec<u8>) -> Recipe {
-    Recipe { name, share, make }
-}
 
 const RECIPES: &[Recipe] = &[
     recipe("imports", 6, |rng, _| good(rng, plain)),
@@ -39,7 +36,9 @@ const RECIPES: &[Recipe] = &[
     recipe("texts that end", 3, ends),
     recipe("surplus", 2, surplus),
     recipe("damage", 5, |rng, _| damaged(rng)),
-    recipe("noise", 1, |rng, _| noise(rng)),
+    recipe("noise", 1, |rng, _| {
+        pieces::noise(rng, |_| head(ImportLine { import: 7, cts: 0 }))
+    }),
 ];
 
 /// Lines of an import in front of its blocks.
@@ -101,11 +100,7 @@ fn few(rng: &mut Rng) -> usize {
 
 /// Blocks of each hour, made so.
 fn blocks(rng: &mut Rng, make: fn(&mut Rng) -> ImportHour) -> Vec<ImportHour> {
-    let mut hours: Vec<ImportHour> = (0..HOURS).map(|_| make(rng)).collect();
-    for (place, hour) in hours.iter_mut().enumerate() {
-        hour.line.hour = place as i64;
-    }
-    hours
+    each_hour(|_| make(rng))
 }
 
 fn first_line(rng: &mut Rng) -> ImportLine {
@@ -115,26 +110,20 @@ fn first_line(rng: &mut Rng) -> ImportLine {
     }
 }
 
-fn text(line: ImportLine, hours: &[ImportHour]) -> Vec<u8> {
+fn head(line: ImportLine) -> String {
     let mut text = String::new();
     line.write(&mut text);
-    text.push('\n');
-    for hour in hours {
-        text += &hour.to_text();
-        text.push('\n');
-    }
-    text.into_bytes()
+    text + "\n"
+}
+
+fn text(line: ImportLine, hours: &[ImportHour]) -> Vec<u8> {
+    pieces::text(&head(line), hours)
 }
 
 fn good(rng: &mut Rng, make: fn(&mut Rng) -> ImportHour) -> Vec<u8> {
     let line = first_line(rng);
     let hours = blocks(rng, make);
-    let mut text = text(line, &hours);
-    if rng.once_in(2) {
-        // The end of the text closes the last block, too.
-        text.pop();
-    }
-    text
+    pieces::closed(rng, text(line, &hours))
 }
 
 /// One hour that just pays a cent, or just does not, and one that would take
@@ -319,15 +308,7 @@ fn extra_lines(rng: &mut Rng, turn: usize) -> Vec<u8> {
 
 fn out_of_order(rng: &mut Rng, turn: usize) -> Vec<u8> {
     let mut hours = blocks(rng, plain);
-    let one = rng.below(HOURS);
-    let other = rng.below(HOURS);
-    match turn % 5 {
-        0 => hours.swap(one, other),
-        1 => drop(hours.remove(one)),
-        2 => hours.insert(one, hours[one].clone()),
-        3 => hours[one].line.hour = rng.between(0, 23),
-        _ => hours.truncate(one),
-    }
+    pieces::misplace(rng, &mut hours, turn % pieces::MISPLACED);
     if rng.once_in(3) {
         // A later block's fault comes later, whatever its check.
         let late = rng.below(hours.len());
@@ -341,21 +322,12 @@ fn out_of_order(rng: &mut Rng, turn: usize) -> Vec<u8> {
 /// Texts that end within a line, or behind one.
 fn ends(rng: &mut Rng, turn: usize) -> Vec<u8> {
     let place = rng.below(HOURS);
-    let (mut sheet, block) = sheet_and_block(rng, place);
+    let (sheet, block) = sheet_and_block(rng, place);
     let line = match turn % 5 {
         4 => rng.below(FIRST_LINES),
         kind => block + nth_line(rng, kind),
     };
-    sheet.lines.truncate(line + 1);
-    sheet.ended = false;
-    let last = &mut sheet.lines[line];
-    let end = match turn / 5 % 3 {
-        0 => last.len(),
-        1 => 0,
-        _ => rng.below(last.len() + 1),
-    };
-    last.truncate(end);
-    sheet.text()
+    pieces::end_in_line(rng, sheet, line, turn / 5)
 }
 
 fn surplus(rng: &mut Rng, turn: usize) -> Vec<u8> {
@@ -365,38 +337,14 @@ fn surplus(rng: &mut Rng, turn: usize) -> Vec<u8> {
         hours[rng.below(HOURS)].intervals.clear();
     }
     let mut text = text(line, &hours);
-    match turn % 3 {
-        0 => text.push(b'\n'),
-        1 => text.push(b'x'),
-        _ => {
-            let count = 1 + rng.below(30);
-            text.extend(rng.bytes(count));
-        }
-    }
+    text.extend(pieces::surplus(rng, turn % 3));
     text
 }
 
 fn damaged(rng: &mut Rng) -> Vec<u8> {
     let line = first_line(rng);
     let hours = blocks(rng, plain);
-    let mut text = text(line, &hours);
-    for _ in 0..1 + rng.below(3) {
-        text = damage::any(rng, text);
-    }
-    text
-}
-
-fn noise(rng: &mut Rng) -> Vec<u8> {
-    let length = rng.pick(&[0, 1, 2, 10, 100, 3000]);
-    match rng.below(3) {
-        0 => rng.bytes(length),
-        1 => rng.bytes_of(damage::SHEET_BYTES, length),
-        _ => {
-            let mut text = b"import=7 cts=0\n\n".to_vec();
-            text.extend(rng.bytes_of(b"\n\na", length));
-            text
-        }
-    }
+    pieces::damaged(rng, text(line, &hours))
 }
 
 /// Two imports: an interval cut in two, or the intervals in another order.

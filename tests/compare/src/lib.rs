@@ -4,6 +4,7 @@
 //! - [`random`]: numbers from a seed;
 //! - [`hours`]: hours as records, and what they need a price for;
 //! - [`damage`]: what can happen to a text;
+//! - [`pieces`]: texts of a head and 24 blocks;
 //! - [`hour`], [`day`], [`import`]: the texts of each program, recipe by
 //!   recipe;
 //! - [`same`]: pairs of texts whose answers are bound to each other;
@@ -23,6 +24,7 @@ pub mod hour;
 pub mod hours;
 pub mod import;
 pub mod outside;
+pub mod pieces;
 pub mod plan;
 pub mod random;
 pub mod run;

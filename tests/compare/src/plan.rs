@@ -16,6 +16,15 @@ pub struct Recipe {
     pub make: fn(&mut Rng, usize) -> Vec<u8>,
 }
 
+/// A recipe of this name and share.
+pub const fn recipe(
+    name: &'static str,
+    share: usize,
+    make: fn(&mut Rng, usize) -> Vec<u8>,
+) -> Recipe {
+    Recipe { name, share, make }
+}
+
 /// A program of document 01: its texts and its answers.
 pub struct Program {
     /// Its name on the command line.

@@ -207,6 +207,17 @@ pub enum ImportTest {
     BidAbove,
 }
 
+impl ImportTest {
+    /// All of them.
+    pub const ALL: [ImportTest; 5] = [
+        ImportTest::Counts,
+        ImportTest::Cts,
+        ImportTest::NotCut,
+        ImportTest::ProfileBelow,
+        ImportTest::BidAbove,
+    ];
+}
+
 /// One thing that an input reached.
 #[derive(Clone, Copy, Debug, PartialEq, Eq, PartialOrd, Ord, Hash)]
 pub enum Event {

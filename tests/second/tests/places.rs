@@ -274,14 +274,7 @@ fn why_an_import_counts_or_not() {
     for cts in 0..=1 {
         import::judge(import_of(7, cts, &hours).as_bytes(), &mut run);
     }
-    let tests = [
-        ImportTest::Counts,
-        ImportTest::Cts,
-        ImportTest::NotCut,
-        ImportTest::ProfileBelow,
-        ImportTest::BidAbove,
-    ];
-    assert_eq!(run.trace.missing(tests.map(Event::Import)), []);
+    assert_eq!(run.trace.missing(ImportTest::ALL.map(Event::Import)), []);
     assert_eq!(run.trace.count(Event::Import(ImportTest::Counts)), 22);
 }
 

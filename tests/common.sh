@@ -1,0 +1,83 @@
+# What faults.sh, samples.sh and trace.sh share: how they begin and end, how a
+# program is run and judged, and what is counted. Each reads this file first.
+set -u
+LC_ALL=C
+export LC_ALL
+
+passed=0
+failed=0
+
+# --- How a script begins and ends.
+
+# Says how the script is called, and ends it.
+usage() {
+    echo "usage: sh $1" >&2
+    exit 2
+}
+
+# Each of these programs has to be there.
+need() {
+    for program in "$@"; do
+        if ! command -v "$program" >/dev/null; then
+            echo "no program $program" >&2
+            exit 2
+        fi
+    done
+}
+
+# A folder of this name for the script's files, as long as it runs: $work.
+work_in() {
+    work=target/$1.$$
+    mkdir -p "$work" || exit 2
+    trap 'rm -rf "$work"; rmdir target 2>/dev/null' EXIT
+    trap 'exit 2' HUP INT TERM
+}
+
+# The last line, and the script's status: 1 if anything failed.
+finish() {
+    echo "$passed passed, $failed failed"
+    [ "$failed" -eq 0 ]
+}
+
+# --- What is counted. $about stands in front of each message.
+about=
+
+pass() {
+    passed=$((passed + 1))
+}
+
+fail() {
+    failed=$((failed + 1))
+    echo "failed: $about$1"
+}
+
+# --- How a program is run and judged.
+
+# A program that has not ended after so many seconds is ended: status 124.
+if command -v timeout >/dev/null; then
+    within() { timeout "$@"; }
+else
+    within() { shift; "$@"; }
+fi
+
+# Where two files differ, for the message: < is of the first, > of the second.
+differ() {
+    diff "$1" "$2" | grep '^[<>]' | head -n 4 | tr '\n' ' '
+}
+
+# Stands directly behind a run. The answer in $work/got has to be the one in $2,
+# or else in $work/want, with status 0 and nothing in $work/err, which is what
+# the program wrote on standard error.
+answered() {
+    status=$?
+    want=${2:-$work/want}
+    if [ "$status" -ne 0 ]; then
+        fail "$1: status $status"
+    elif [ -s "$work/err" ]; then
+        fail "$1: $(head -n 1 "$work/err")"
+    elif ! cmp -s "$work/got" "$want"; then
+        fail "$1: $(differ "$work/got" "$want")"
+    else
+        pass
+    fi
+}
