@@ -9,6 +9,8 @@ use std::process::{Child, Command, Stdio};
 use std::thread::sleep;
 use std::time::{Duration, Instant};
 
+use second::day::HOURS;
+
 use crate::sheets::Files;
 use crate::timing::{alternate, Growth, COUNTS};
 
@@ -18,6 +20,10 @@ pub struct Program {
     pub name: &'static str,
     /// How many bytes the first of its files has.
     pub bytes: u64,
+    /// How many hours one of its texts has.
+    pub hours: usize,
+    /// How many bytes its files have together over the most runs.
+    pub all_bytes: u64,
     /// Over 1 to 1,000 runs.
     pub growth: Vec<Growth>,
     /// The most memory of each, in kB; none where it could not be seen.
@@ -38,20 +44,26 @@ pub fn run(program: &Path, arguments: &[&str], file: &Path) -> io::Result<()> {
 /// Measures the programs that are built.
 pub fn measure(root: &Path, files: &Files) -> io::Result<Vec<Program>> {
     let mut programs = Vec::new();
-    for (name, second, files) in [
-        ("hour", "hour2", &files.blocks),
-        ("day", "day2", &files.days),
+    for (name, second, hours, files) in [
+        ("hour", "hour2", 1, &files.blocks),
+        ("day", "day2", HOURS, &files.days),
     ] {
         let bin = root.join("target/bin").join(name);
         let second = root.join("tests/second/target/release").join(second);
         if bin.is_file() && second.is_file() {
-            programs.push(of(name, [&bin, &second, &PathBuf::from("wc")], files)?);
+            let bins = [&bin, &second, &PathBuf::from("wc")];
+            programs.push(of(name, hours, bins, files)?);
         }
     }
     Ok(programs)
 }
 
-fn of(name: &'static str, bins: [&PathBuf; 3], files: &[PathBuf]) -> io::Result<Program> {
+fn of(
+    name: &'static str,
+    hours: usize,
+    bins: [&PathBuf; 3],
+    files: &[PathBuf],
+) -> io::Result<Program> {
     let arguments: [&[&str]; 3] = [&[], &[], &["-l"]];
     let mut memory = [None; 3];
     for (i, most) in memory.iter_mut().enumerate() {
@@ -67,9 +79,15 @@ fn of(name: &'static str, bins: [&PathBuf; 3], files: &[PathBuf]) -> io::Result<
         };
         alternate(count, [&mut || all(0), &mut || all(1), &mut || all(2)])
     });
+    let mut all_bytes = 0;
+    for file in files.iter().cycle().take(COUNTS[COUNTS.len() - 1]) {
+        all_bytes += fs::metadata(file)?.len();
+    }
     Ok(Program {
         name,
         bytes: fs::metadata(&files[0])?.len(),
+        hours,
+        all_bytes,
         growth: growth.into(),
         memory,
     })

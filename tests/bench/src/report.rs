@@ -43,6 +43,22 @@ fn table(
     writeln!(out, "|{}", "---|".repeat(columns.len()))
 }
 
+/// A line for each of three that went over the same bytes, `hours` of them in each sheet or run.
+fn rate(
+    out: &mut fmt::Formatter<'_>,
+    names: [String; 3],
+    last: &Growth,
+    bytes: f64,
+    hours: usize,
+) -> fmt::Result {
+    for (name, seconds) in names.into_iter().zip(last.seconds()) {
+        let bytes = bytes / 1e6 / seconds;
+        let hours = (last.count * hours) as f64 / seconds;
+        writeln!(out, "| {name} | {bytes:.0} | {hours:.0} |")?;
+    }
+    Ok(())
+}
+
 impl fmt::Display for Report {
     fn fmt(&self, out: &mut fmt::Formatter<'_>) -> fmt::Result {
         let Report { machine, hours, .. } = self;
@@ -84,22 +100,29 @@ impl Report {
         Ok(())
     }
 
+    /// Bytes and hours per second over the most sheets and runs.
     fn rates(&self, out: &mut fmt::Formatter<'_>) -> fmt::Result {
-        let (Some(last), Some(bytes)) = (self.blocks.last(), self.bytes.last()) else {
-            return Ok(());
-        };
-        let sentence = format!("Over {} sheets of {HOURS} hours.", last.count);
+        let sentence = "Over the most sheets and runs. A program's run begins with its start, which is most of the time of a short text.";
         let columns = ["What", "MB per second", "hours per second"];
-        table(out, "The block call", &sentence, &columns)?;
-        let names = [
-            "proved, through the static library",
-            "second program, in process",
-            "`wc -l` on a file",
-        ];
-        for (name, seconds) in names.into_iter().zip(last.seconds()) {
-            let bytes = *bytes as f64 / 1e6 / seconds;
-            let hours = (last.count * HOURS) as f64 / seconds;
-            writeln!(out, "| {name} | {bytes:.0} | {hours:.0} |")?;
+        table(out, "Bytes and hours per second", sentence, &columns)?;
+        if let (Some(last), Some(&bytes)) = (self.blocks.last(), self.bytes.last()) {
+            let names = [
+                "block call, proved, through the static library",
+                "block call, second program, in process",
+                "`wc -l` on a file of the same blocks",
+            ];
+            rate(out, names.map(String::from), last, bytes as f64, HOURS)?;
+        }
+        for program in &self.programs {
+            let Program { name, hours, .. } = program;
+            if let Some(last) = program.growth.last() {
+                let names = [
+                    format!("program `{name}`"),
+                    format!("second program's `{name}`"),
+                    format!("`wc -l` on the texts of `{name}`"),
+                ];
+                rate(out, names, last, program.all_bytes as f64, *hours)?;
+            }
         }
         Ok(())
     }
