@@ -1,12 +1,12 @@
 // Each of the checks 1 to 5, over the whole record.
 ghost use mathlib.Core.Path.{_≡_};
-ghost use mathlib.Core.Bool.{Bool, true, _&&_};
-ghost use Prim.Native.Nat.{ℕ, _+_, _<_, _≤_};
-ghost use lib.IntN.{ℤ, pos, _+ℤ_};
-ghost use Rattle.exact.specs.Whole.{Within, eqZ, sumTo};
-ghost use Rattle.tariff.specs.Sheet.{curveInRange, curveKeeps};
+ghost use mathlib.Core.Bool.{true};
+ghost use Prim.Native.Nat.{_+_, _<_, _≤_};
+ghost use lib.IntN.{pos, _+ℤ_};
+ghost use Rattle.exact.specs.Whole.{Within, eqZ};
+ghost use Rattle.tariff.specs.Sheet.{curveKeeps};
 ghost use Rattle.tariff.specs.Reply.{shown, clear, unless};
-ghost use Rattle.tariff.specs.Hour.{interval, form, range, order, curves, secondsSum};
+ghost use Rattle.tariff.specs.Hour.{form, range, order, curves, secondsSum};
 use crate::ranges;
 use tariff::Check;
 use tariff::Curve;

@@ -1,9 +1,8 @@
 // Check 2: the range of each number of an hour's record.
 ghost use mathlib.Core.Path.{_≡_};
-ghost use mathlib.Core.Bool.{Bool, true, _&&_};
-ghost use Prim.Native.Nat.{ℕ, _<_, _≤_};
-ghost use lib.IntN.{ℤ};
-ghost use Rattle.tariff.specs.Sheet.{isSeconds, isHour, isPower, isCapacity, isBid, isPrice, stepInRange, curveInRange, uolInRange, aheadInRange, intervalInRange};
+ghost use mathlib.Core.Bool.{true, _&&_};
+ghost use Prim.Native.Nat.{_<_, _≤_};
+ghost use Rattle.tariff.specs.Sheet.{isSeconds, isHour, isPower, isCapacity, isBid, isPrice, curveInRange, uolInRange, aheadInRange, intervalInRange};
 use tariff::Curve;
 use tariff::DayAhead;
 use tariff::Interval;

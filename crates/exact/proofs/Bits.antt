@@ -1,19 +1,19 @@
 -- What code computes at `i64`: a number x, perhaps read back from its bits, is the number z, within N.
 use mathlib.Core.Path.{_≡_, refl, sym, _∙_, ap, subst}
-use mathlib.Core.Bool.{Bool, true, false, not}
-use Prim.Native.Nat.{ℕ, zero, suc, _+_, _*_, _/_, _%_, _^_, _<_, _≤_}
+use mathlib.Core.Bool.{Bool, true, false}
+use Prim.Native.Nat.{ℕ, _+_, _*_, _/_, _^_, _<_}
 use native.Mathlib.Nat.{div-le-self}
 use native.Mathlib.Omega.{arith}
-use lib.Dec.{T, ltb, leb, eqb}
+use lib.Dec.{T, ltb, eqb}
 use borrow.Author.Tests.{eqb-true, eqb-false}
-use lib.IntN.{ℤ, pos, negsuc, negℤ, _+ℤ_, _-ℤ_, _*ℤ_}
-use lib.Signed.{ltZ, leZ, mag, quotZ}
+use lib.IntN.{ℤ, pos, negsuc, _+ℤ_, _-ℤ_, _*ℤ_}
+use lib.Signed.{ltZ, mag, quotZ}
 use mir.Syntax.{w64}
 use mir.Val.{SFits, toZ, ofZ}
 use mir.Facts.{toZ-ofZ}
-use Rattle.exact.specs.Whole.{over, under, minℤ, maxℤ, eqZ, Within}
+use Rattle.exact.specs.Whole.{over, minℤ, maxℤ, eqZ, Within}
 use Rattle.exact.proofs.Parts.{arithℤ, by-test, min-parts, max-parts, apart, true-eqZ, false-eqZ}
-use Rattle.exact.proofs.Range.{within-add, within-less, within-mul, within-neg, within-fits, within-more}
+use Rattle.exact.proofs.Range.{within-add, within-less, within-mul, within-fits}
 
 -- x as a local holds it: its bits, read back
 abbrev pub held : ℤ → ℤ
@@ -48,22 +48,17 @@ is-mul f g = record { same = λ i. f .same i *ℤ g .same i; range = within-mul 
 pub gives : {N : ℕ} {x z : ℤ} → T (ltb N (2 ^ 63)) → Is N x z → held x ≡ z
 gives t h = back t h .same
 
+-- the whole number that an `i64` hands over
+pub handed : (z : ℤ) → mag z < 2 ^ 63 → held z ≡ z
+handed z f = toZ-ofZ {w = w64} {z = z} (record { sfits = f })
+
 -- ---- tests of two numbers, each read back from its bits
 module _ (a b : ℤ) (fa : mag a < 2 ^ 63) (fb : mag b < 2 ^ 63) where
-  held-a : held a ≡ a
-  held-a = toZ-ofZ {w = w64} {z = a} (record { sfits = fa })
-
-  held-b : held b ≡ b
-  held-b = toZ-ofZ {w = w64} {z = b} (record { sfits = fb })
-
   pub lt-held : ltZ (held a) (held b) ≡ ltZ a b
-  lt-held = λ i. ltZ (held-a i) (held-b i)
-
-  pub le-held : leZ (held a) (held b) ≡ leZ a b
-  le-held = λ i. leZ (held-a i) (held-b i)
+  lt-held = λ i. ltZ (handed a fa i) (handed b fb i)
 
   pub eq-held : ofZ w64 a ≡ ofZ w64 b → eqZ a b ≡ true
-  eq-held e = true-eqZ a b (sym held-a ∙ ap (toZ w64) e ∙ held-b)
+  eq-held e = true-eqZ a b (sym (handed a fa) ∙ ap (toZ w64) e ∙ handed b fb)
 
   pub ne-held : (ofZ w64 a ≡ ofZ w64 b → ⊥) → eqZ a b ≡ false
   ne-held n = false-eqZ a b (λ e. n (ap (ofZ w64) e))
@@ -106,7 +101,7 @@ quot-small (negsuc n) k f h = absurd (let z : _≡_ {A = ℕ} 0 1 = cc in omega 
 
 module _ (a : ℤ) (k : ℕ) (fa : mag a < 2 ^ 63) (h : ltZ a (pos 0) ≡ false) where
   quot-held : quotZ (held a) (pos k) ≡ quotZ a (pos k)
-  quot-held = ap (λ (z : ℤ). quotZ z (pos k)) (toZ-ofZ {w = w64} {z = a} (record { sfits = fa }))
+  quot-held = ap (λ (z : ℤ). quotZ z (pos k)) (handed a fa)
 
   pub quot-fits : SFits w64 (quotZ (held a) (pos k))
   quot-fits = subst (SFits w64) (sym quot-held) (quot-small a k fa h)

@@ -1,20 +1,13 @@
 -- Places and distances: x is a and the steps from a up to x.
-use mathlib.Core.Path.{_≡_, refl, sym, _∙_, ap}
-use mathlib.Core.Bool.{Bool, true, false, not}
-use Prim.Native.Nat.{ℕ, zero, suc, _+_, _-_, _<_, _≤_}
-use native.Mathlib.Omega.{arith}
-use lib.IntN.{ℤ, pos, negℤ, _+ℤ_, _-ℤ_, +ℤ-assoc}
-use lib.Signed.{_≤ℤ_, _<ℤ_, leZ, ltZ}
-use Rattle.exact.specs.Whole.{over, under, minℤ, maxℤ, span}
-use Rattle.exact.proofs.Parts.{arithℤ, add-parts, less-parts, apart, by-test, span-parts, min-parts, max-parts}
+use mathlib.Core.Path.{_≡_}
+use mathlib.Core.Bool.{true, false, not}
+use Prim.Native.Nat.{ℕ, _+_, _<_}
+use lib.IntN.{ℤ, pos, _+ℤ_, _-ℤ_, +ℤ-assoc}
+use lib.Signed.{leZ, ltZ}
+use Rattle.exact.specs.Whole.{minℤ, maxℤ, span}
+use Rattle.exact.proofs.Parts.{arithℤ, less-parts, by-test, span-parts, min-parts, max-parts}
 
 -- ---- from a up to b, where b is not below a
-
-pub span-back : (a b : ℤ) → ltZ b a ≡ false → b ≡ a +ℤ pos (span a b)
-span-back a b h = omega (arithℤ, add-parts a (pos (span a b)), span-parts a b)
-
-pub span-of : (a : ℤ) (d : ℕ) → span a (a +ℤ pos d) ≡ d
-span-of a d = omega (arith, span-parts a (a +ℤ pos d), add-parts a (pos d))
 
 pub span-none : (a b : ℤ) → ltZ a b ≡ false → span a b ≡ 0
 span-none a b h = omega (arithℤ, span-parts a b)
@@ -37,13 +30,13 @@ step-step a i d = +ℤ-assoc a (pos i) (pos d)
 
 -- ---- the lesser and the greater, where the order is known
 
-pub min-of : (a b : ℤ) → ltZ a b ≡ true → minℤ a b ≡ a
+pub min-of : (a b : ℤ) → ltZ b a ≡ false → minℤ a b ≡ a
 min-of a b h = omega (arithℤ, min-parts a b)
 
 pub min-of′ : (a b : ℤ) → ltZ a b ≡ false → minℤ a b ≡ b
 min-of′ a b h = omega (arithℤ, min-parts a b)
 
-pub max-of : (a b : ℤ) → ltZ a b ≡ true → maxℤ a b ≡ b
+pub max-of : (a b : ℤ) → ltZ b a ≡ false → maxℤ a b ≡ b
 max-of a b h = omega (arithℤ, max-parts a b)
 
 pub max-of′ : (a b : ℤ) → ltZ a b ≡ false → maxℤ a b ≡ a

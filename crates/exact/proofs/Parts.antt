@@ -1,10 +1,10 @@
 -- What each operation and each test of ℤ says of the parts above and below zero, so that `omega` decides what is linear.
 use mathlib.Core.Path.{_≡_, refl, sym, _∙_, ap, subst}
-use mathlib.Core.Bool.{Bool, true, false, not, cond}
+use mathlib.Core.Bool.{Bool, true, false, cond}
 use Prim.Native.Nat.{ℕ, zero, suc, _+_, _*_, _-_, _<_, _≤_, min, max}
 use native.Mathlib.Omega.{arith}
-use lib.Dec.{T, ltb, leb, eqb, ltb→lt, nltb→le, lt→ltb, le→leb, leb→le, nleb→lt}
-use borrow.Author.Tests.{ltb-true, ltb-false, leb-true, leb-false, lt-ltb, le-ltb, le-leb, lt-leb, eqb-true, eqb-false, eq-eqb, ne-eqb}
+use lib.Dec.{T, ltb, ltb→lt, lt→ltb, le→leb, leb→le}
+use borrow.Author.Tests.{ltb-true, ltb-false, leb-false, lt-ltb, le-ltb, le-leb, lt-leb, eq-eqb, ne-eqb}
 use lib.IntN.{ℤ, pos, negsuc, negℤ, subℕ, _+ℤ_, _-ℤ_, _*ℤ_, natAbs}
 use lib.Signed.{_≤ℤ_, _<ℤ_, leZ, ltZ}
 use Rattle.exact.specs.Choice.{if_then_else_}
@@ -100,9 +100,6 @@ parts-lt a b h = record { lt = go a b h }
 is : {b : Bool} → b ≡ true → T b
 is e = subst T (sym e) tt
 
-isn't : {b : Bool} → b ≡ false → T (not b)
-isn't e = subst (λ (b : Bool). T (not b)) (sym e) tt
-
 pub lt-true : (a b : ℤ) → ltZ a b ≡ true → over a + under b < over b + under a
 lt-true a b e = lt-parts {a = a} {b = b} (record { lt = is e })
 
@@ -144,18 +141,6 @@ false-le (pos a) (pos b) h = lt-leb a b (omega arith)
 false-le (pos a) (negsuc b) h = refl
 false-le (negsuc a) (pos b) h = absurd (omega arith)
 false-le (negsuc a) (negsuc b) h = lt-leb b a (omega arith)
-
-pub eqZ-true : (a b : ℤ) → eqZ a b ≡ true → a ≡ b
-eqZ-true (pos a) (pos b) e = ap pos (eqb-true a b e)
-eqZ-true (pos a) (negsuc b) e = absurd (let z : _≡_ {A = ℕ} 0 1 = cc in omega arith)
-eqZ-true (negsuc a) (pos b) e = absurd (let z : _≡_ {A = ℕ} 0 1 = cc in omega arith)
-eqZ-true (negsuc a) (negsuc b) e = ap negsuc (eqb-true a b e)
-
-pub eqZ-false : (a b : ℤ) → eqZ a b ≡ false → a ≡ b → ⊥
-eqZ-false (pos a) (pos b) e q = eqb-false a b e (ap natAbs q)
-eqZ-false (pos a) (negsuc b) e q = let z = eq-parts q in omega arith
-eqZ-false (negsuc a) (pos b) e q = let z = eq-parts q in omega arith
-eqZ-false (negsuc a) (negsuc b) e q = eqb-false a b e (let z = eq-parts q in omega arith)
 
 pub true-eqZ : (a b : ℤ) → a ≡ b → eqZ a b ≡ true
 true-eqZ (pos a) (pos b) e = eq-eqb a b (ap natAbs e)

@@ -1,8 +1,8 @@
--- The ring of ℤ: products over sums, and two rule sets for `simp`, one that multiplies out and sorts, one that cancels too.
-use mathlib.Core.Path.{_≡_, refl, sym, _∙_, ap}
-use Prim.Native.Nat.{ℕ, _+_, _*_}
+-- The ring of ℤ: products over sums, and a rule set for `simp` that multiplies out and sorts.
+use mathlib.Core.Path.{_≡_, sym, _∙_, ap}
+use Prim.Native.Nat.{ℕ, _*_}
 use native.Mathlib.Omega.{arith}
-use lib.IntN.{ℤ, pos, negℤ, _+ℤ_, _-ℤ_, _*ℤ_, negℤ-+ℤ, negℤ-negℤ, +ℤ-assoc, +ℤ-comm, +ℤ-idl, +ℤ-idr, +ℤ-invl, +ℤ-invr, *ℤ-comm, zero-*ℤ, *ℤ-zero}
+use lib.IntN.{ℤ, negℤ, _+ℤ_, _*ℤ_, negℤ-+ℤ, negℤ-negℤ, +ℤ-assoc, +ℤ-comm, *ℤ-comm}
 use Rattle.exact.specs.Whole.{over, under}
 use Rattle.exact.proofs.Parts.{parts-eq, add-parts, mul-parts, neg-over, neg-under}
 
@@ -60,11 +60,3 @@ pub +-left-comm : (a b c : ℤ) → a +ℤ (b +ℤ c) ≡ b +ℤ (a +ℤ c)
 +-left-comm a b c = sym (+ℤ-assoc a b c) ∙ ap (λ (z : ℤ). z +ℤ c) (+ℤ-comm a b) ∙ +ℤ-assoc b a c
 
 pub ruleset expandℤ = (+-over-*, *-over-+, neg-*-left, neg-*-right, negℤ-+ℤ, negℤ-negℤ, *-assoc, *-left-comm, *ℤ-comm, +ℤ-assoc, +-left-comm, +ℤ-comm)
-
-pub cancel-left : (a b : ℤ) → a +ℤ (negℤ a +ℤ b) ≡ b
-cancel-left a b = sym (+ℤ-assoc a (negℤ a) b) ∙ ap (λ (z : ℤ). z +ℤ b) (+ℤ-invr a) ∙ +ℤ-idl b
-
-pub cancel-right : (a b : ℤ) → negℤ a +ℤ (a +ℤ b) ≡ b
-cancel-right a b = sym (+ℤ-assoc (negℤ a) a b) ∙ ap (λ (z : ℤ). z +ℤ b) (+ℤ-invl a) ∙ +ℤ-idl b
-
-pub ruleset cancelℤ = (expandℤ, cancel-left, cancel-right, +ℤ-invr, +ℤ-invl, +ℤ-idl, +ℤ-idr)

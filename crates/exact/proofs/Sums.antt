@@ -1,15 +1,14 @@
 -- Laws of sums and lists by the index.
-use mathlib.Core.Path.{_≡_, refl, sym, _∙_, ap}
-use mathlib.Core.List.{List, [], _∷_, _++_}
-use Prim.Native.Nat.{ℕ, zero, suc, _+_, _*_, _<_, _≤_}
+use mathlib.Core.Path.{_≡_, refl, _∙_, ap}
+use mathlib.Core.List.{[], _∷_, _++_}
+use Prim.Native.Nat.{ℕ, zero, suc, _+_, _*_, _<_}
 use native.Mathlib.Numerals.{add-one}
 use native.Mathlib.Decide.{decLt}
 use native.Mathlib.Omega.{arith}
-use lib.IntN.{ℤ, pos, _+ℤ_, _*ℤ_, zero-*ℤ}
-use lib.ListN.{length, getD, take, drop, length-append, List·getD-append}
+use lib.IntN.{ℤ, pos, _+ℤ_}
+use lib.ListN.{length, getD, length-append, List·getD-append}
 use lib.Seq.{getD-at}
 use Rattle.exact.specs.Whole.{Within, upTo, sumTo}
-use Rattle.exact.proofs.Ring.{+-over-*}
 use Rattle.exact.proofs.Range.{within-zero, within-add, within-more}
 
 -- ---- sums
@@ -26,6 +25,11 @@ pub sum-same : (f g : ℕ → ℤ) (n : ℕ) → ((k : ℕ) → k < n → f k �
 unfolding sumTo
 sum-same f g zero h = refl
 sum-same f g (suc n) h = rw (sum-same f g n (λ k u. h k (omega arith)), h n (omega arith))
+
+pub sum-zeros : (f : ℕ → ℤ) (n : ℕ) → ((k : ℕ) → k < n → f k ≡ pos 0) → sumTo f n ≡ pos 0
+unfolding sumTo
+sum-zeros f zero h = refl
+sum-zeros f (suc n) h = rw (sum-zeros f n (λ k u. h k (omega arith)), h n (omega arith))
 
 pub sum-within : (B : ℕ) (f : ℕ → ℤ) (n : ℕ) → ((k : ℕ) → k < n → Within B (f k)) → Within (B * n) (sumTo f n)
 unfolding sumTo

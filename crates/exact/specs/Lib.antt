@@ -1,2 +1,3 @@
+-- A choice by a test, and whole numbers with a sign.
 pub mod Choice
 pub mod Whole

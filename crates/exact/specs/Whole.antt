@@ -1,5 +1,5 @@
 -- Whole numbers with a sign: their parts above and below zero, the lesser and the greater, tests, ranges, distances, sums.
-use mathlib.Core.Bool.{Bool, true, false}
+use mathlib.Core.Bool.{Bool, false}
 use mathlib.Core.List.{List, [], _∷_, _++_}
 use Prim.Native.Nat.{ℕ, zero, suc, _≤_}
 use lib.Dec.{eqb}

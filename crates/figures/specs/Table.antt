@@ -14,9 +14,9 @@ use Rattle.tariff.specs.declared.Expected.the-variants.{Any}
 use Rattle.tariff.specs.Units.{centsOf}
 use Rattle.tariff.specs.Sheet.{allTo, aheadInRange, curveInRange, intervalInRange, curveKeeps}
 use Rattle.tariff.specs.Curve.{quoteFrom, quote, sumUp, integral}
-use Rattle.tariff.specs.Reply.{Reply, paid, refused, firstOf}
+use Rattle.tariff.specs.Reply.{Reply, paid, refused, DERATE, REACH, firstOf}
 use Rattle.tariff.specs.Eligible.{someTo, excluded}
-use Rattle.tariff.specs.Derate.{reduction, potential, floorOf, remainder, leftOver, one, share, isDerated, reduced}
+use Rattle.tariff.specs.Derate.{redTot, potRed, floorOf, remainder, leftOver, one, share, exceedsRoom, reduced}
 use Rattle.tariff.specs.Contributions.{lowerLimit, upperLimit, energy, reserve, regulation, movement, otherThanEnergy}
 use Rattle.tariff.specs.Hour.{interval, form, range, order, curves, secondsSum, Outcome, gives, derated, unreached, outcome, outcomeAt, intervals, reply}
 use Rattle.figures.specs.Sample.{worked, withdrawing, moving, derating, overDerated, marks, shortCurve}
@@ -44,8 +44,8 @@ pub data Holds : List Row → Type 0 where
 
 abbrev pub told : Outcome → List ℤ
 told (gives grains) = pos 0 ∷ grains ∷ []
-told derated = pos 6 ∷ []
-told unreached = pos 7 ∷ []
+told derated = pos DERATE ∷ []
+told unreached = pos REACH ∷ []
 
 abbrev pub replied : Reply → List ℤ
 replied (paid sum cents) = pos 0 ∷ sum ∷ cents ∷ []
@@ -60,15 +60,15 @@ whole h = replied (reply h false Any 30)
 
 -- ---- the derate of an hour's first interval: REDtot, the five POTRED, the five shares
 
-abbrev pub redTotBy : DayAhead → Uol → ℕ
-redTotBy a Missing = 0
-redTotBy a (At limit) = reduction a (limit .0)
+abbrev pub redTotUnder : DayAhead → Uol → ℕ
+redTotUnder a Missing = 0
+redTotUnder a (At limit) = redTot a (limit .0)
 
-abbrev pub redTot : Hour → ℕ
-redTot h = redTotBy (h .ahead) (interval h 0 .uol)
+abbrev pub redTotIn : Hour → ℕ
+redTotIn h = redTotUnder (h .ahead) (interval h 0 .uol)
 
-abbrev pub potRed : Hour → ℕ → ℕ
-potRed h = potential (h .ahead) (interval h 0)
+abbrev pub potRedIn : Hour → ℕ → ℕ
+potRedIn h = potRed (h .ahead) (interval h 0)
 
 abbrev pub five : (ℕ → ℕ) → List ℤ
 five f = upTo (λ j. pos (f j)) 5
@@ -86,9 +86,9 @@ figures =
     ∷ (P 6 is reserve (pos 10000) (pos 12000) (pos 800) (pos 0) (pos 900) ∷ [] prints (negℤ (pos 1440000000) ∷ []))
     ∷ (P 7 is at moving 0 prints (pos 0 ∷ negℤ (pos 144000000) ∷ []))
     ∷ (P 8 is centsOf (pos 3599999) ∷ centsOf (pos 3600000) ∷ centsOf (negℤ (pos 1)) ∷ [] prints (pos 0 ∷ pos 1 ∷ pos 0 ∷ []))
-    ∷ (P 9 is pos (redTot derating) ∷ five (potRed derating) prints (pos 10000 ∷ pos 20000 ∷ pos 10000 ∷ pos 0 ∷ pos 0 ∷ pos 0 ∷ []))
-    ∷ (P 9 is five (share (potRed derating) (redTot derating)) prints (pos 6667 ∷ pos 3333 ∷ pos 0 ∷ pos 0 ∷ pos 0 ∷ []))
-    ∷ (P 9 is pos (redTot overDerated) ∷ five (potRed overDerated) prints (pos 30001 ∷ pos 20000 ∷ pos 10000 ∷ pos 0 ∷ pos 0 ∷ pos 0 ∷ []))
+    ∷ (P 9 is pos (redTotIn derating) ∷ five (potRedIn derating) prints (pos 10000 ∷ pos 20000 ∷ pos 10000 ∷ pos 0 ∷ pos 0 ∷ pos 0 ∷ []))
+    ∷ (P 9 is five (share (potRedIn derating) (redTotIn derating)) prints (pos 6667 ∷ pos 3333 ∷ pos 0 ∷ pos 0 ∷ pos 0 ∷ []))
+    ∷ (P 9 is pos (redTotIn overDerated) ∷ five (potRedIn overDerated) prints (pos 30001 ∷ pos 20000 ∷ pos 10000 ∷ pos 0 ∷ pos 0 ∷ pos 0 ∷ []))
     ∷ (P 9 is whole overDerated prints (pos 6 ∷ pos 1 ∷ []))
     ∷ (P 10 is upTo (λ h. pos (one (excluded 24 marks h))) 24 prints (replicate 3 (pos 0) ++ replicate 5 (pos 1) ++ replicate 16 (pos 0)))
     ∷ (P 11 is whole shortCurve prints (pos 7 ∷ pos 1 ∷ []))
@@ -96,7 +96,7 @@ figures =
 
 pub figures-hold : Holds figures
 unfolding
-    outcome isDerated reduced energy lowerLimit upperLimit minℤ maxℤ integral span sumUp quote quoteFrom otherThanEnergy regulation reserve movement
+    outcome exceedsRoom reduced energy lowerLimit upperLimit minℤ maxℤ integral span sumUp quote quoteFrom otherThanEnergy regulation reserve movement
     centsOf upTo share floorOf remainder leftOver excluded someTo
     reply form range aheadInRange curveInRange intervalInRange allTo firstOf order curves curveKeeps secondsSum sumTo intervals outcomeAt
 figures-hold =

@@ -8,7 +8,7 @@ use Rattle.tariff.specs.Units.{centsOf}
 use Rattle.tariff.specs.Sheet.{allTo, aheadInRange, curveInRange, intervalInRange, curveKeeps}
 use Rattle.tariff.specs.Curve.{quoteFrom, quote, sumUp, integral}
 use Rattle.tariff.specs.Reply.{paid, firstOf}
-use Rattle.tariff.specs.Derate.{isDerated, reduced}
+use Rattle.tariff.specs.Derate.{exceedsRoom, reduced}
 use Rattle.tariff.specs.Contributions.{lowerLimit, upperLimit, energy, reserve, regulation, movement, otherThanEnergy}
 use Rattle.tariff.specs.Hour.{interval, form, range, order, curves, secondsSum, gives, outcome, outcomeAt, intervals, contribution, hourSum, reply}
 use Rattle.figures.specs.Sample.{worked}
@@ -18,7 +18,7 @@ pub worked-gives :
     × (outcome worked (interval worked 1) ≡ gives (pos 72900000000))
     × (outcome worked (interval worked 2) ≡ gives (negℤ (pos 9000000000)))
     × (outcome worked (interval worked 3) ≡ gives (pos 0))
-unfolding outcome isDerated reduced energy lowerLimit upperLimit minℤ maxℤ integral span sumUp quote quoteFrom otherThanEnergy regulation reserve movement
+unfolding outcome exceedsRoom reduced energy lowerLimit upperLimit minℤ maxℤ integral span sumUp quote quoteFrom otherThanEnergy regulation reserve movement
 worked-gives = (refl, refl, refl, refl)
 
 pub worked-paid : reply worked false Any 30 ≡ paid (pos 90900000000) (pos 25250)

@@ -1,23 +1,19 @@
 -- Rows of digits, hour by hour as the code reads them.
-use mathlib.Core.Path.{_≡_, refl, sym, _∙_, ap}
-use mathlib.Core.Bool.{Bool, true, false, _&&_, false≢true}
+use mathlib.Core.Path.{_≡_, sym, _∙_, ap}
+use mathlib.Core.Bool.{Bool, true, false, false≢true}
 use mathlib.Core.List.{List}
-use Prim.Native.Nat.{ℕ, zero, suc, _+_, _≤_, _<_}
+use Prim.Native.Nat.{ℕ, _+_, _≤_, _<_}
 use native.Mathlib.Omega.{arith}
 use borrow.Author.Tests.{lt-ltb}
 use lib.Dec.{ltb}
 use lib.ListN.{length}
 use Rattle.tariff.specs.Sheet.{allTo}
 use Rattle.tariff.specs.Eligible.{marked}
-use Rattle.tariff.proofs.Tests.{all-more, all-not, and-both}
+use Rattle.tariff.proofs.Tests.{all-not}
 use Rattle.text.specs.Number.{digitAt}
 use Rattle.text.specs.declared.Next.the-variants.{At, Wrong}
 use Rattle.text.proofs.Numbers.{digit-inside}
 use Rattle.header.specs.Header.{digitsAt}
-
--- a test of each hour passed, and of one more
-pub all-next : (f : ℕ → Bool) (h : ℕ) → allTo f h ≡ true → f h ≡ true → allTo f (h + 1) ≡ true
-all-next f h e n = all-more f h ∙ and-both (allTo f h) (f h) e n
 
 -- the digit of an hour, read at its place
 pub digit-of : (s : List ℕ) (at h : ℕ) {i d : ℕ} → i ≡ at + h → d ≡ digitAt s i → d ≡ digitAt s (at + h)
@@ -50,9 +46,3 @@ module _ (s : List ℕ) (at : ℕ) where
 -- no admitted digit stands past the text
 pub admitted-inside : (s : List ℕ) (i admitted : ℕ) {d : ℕ} → marked admitted 10 ≡ false → d ≡ digitAt s i → marked admitted d ≡ true → i < length s
 admitted-inside s i admitted none e m = digit-inside s i (λ n. false≢true (sym none ∙ ap (marked admitted) (sym n ∙ sym e) ∙ m))
-
--- ---- two tests that agree at each hour
-pub all-same : (f g : ℕ → Bool) (n : ℕ) → ((h : ℕ) → h < n → f h ≡ g h) → allTo f n ≡ allTo g n
-unfolding allTo
-all-same f g zero e = refl
-all-same f g (suc n) e = λ i. all-same f g n (λ h u. e h (omega arith)) i && e n (omega arith) i

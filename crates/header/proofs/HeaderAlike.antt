@@ -10,23 +10,23 @@ use Rattle.exact.proofs.Sums.{up-same}
 use Rattle.tariff.specs.Import.{isMark, isName}
 use Rattle.tariff.specs.Reply.{Verdict, clear, fault, unless, _then_}
 use Rattle.tariff.proofs.Checks.{first-same}
+use Rattle.tariff.proofs.Tests.{all-same}
 use Rattle.text.specs.declared.Next.{Next}
 use Rattle.lines.specs.Line.{isAt, placeIn}
 use Rattle.marks.proofs.Rows.{word-same}
 use Rattle.header.specs.Header.{linePlace, numberOn, digitOn, isCategory, isBit, headerForm, headerInRange, headerRange, headerFault, rowWord, marksOf, marksUnder, nextUnder}
-use Rattle.header.proofs.Digits.{all-same}
 
 pub record Alike (hours : ℕ) (s t : List ℕ) : Type 0 where
   pub places : (j : ℕ) → j < 12 → linePlace hours j s ≡ linePlace hours j t
   pub numbers : (j : ℕ) → j < 3 → numberOn hours j s ≡ numberOn hours j t
   pub digits : (j : ℕ) → 3 ≤ j → j < 10 → (h : ℕ) → h < hours → digitOn hours j s h ≡ digitOn hours j t h
 
-module _ {hours : ℕ} {s t : List ℕ} (o : Alike hours s t) where
-  -- ---- the two checks
-  form-alike : headerForm hours s ≡ headerForm hours t
-  unfolding headerForm
-  form-alike = first-same _ _ 11 (λ j u. ap (λ (x : Next). unless (isAt x) 1 (suc j)) (o .places (suc j) (omega arith)))
+-- ---- the two checks
+pub form-same : (hours : ℕ) (s t : List ℕ) → ((j : ℕ) → j < 12 → linePlace hours j s ≡ linePlace hours j t) → headerForm hours s ≡ headerForm hours t
+unfolding headerForm
+form-same hours s t places = first-same _ _ 11 (λ j u. ap (λ (x : Next). unless (isAt x) 1 (suc j)) (places (suc j) (omega arith)))
 
+module _ {hours : ℕ} {s t : List ℕ} (o : Alike hours s t) where
   in-range-alike : (j : ℕ) → j < 10 → headerInRange hours j s ≡ headerInRange hours j t
   unfolding headerInRange
   in-range-alike zero u = ap (λ (z : ℤ). eqZ z (pos 1)) (o .numbers 0 (omega arith))
@@ -40,7 +40,7 @@ module _ {hours : ℕ} {s t : List ℕ} (o : Alike hours s t) where
   range-alike = first-same _ _ 10 (λ j u. rw (in-range-alike j u))
 
   pub fault-alike : headerFault hours s ≡ headerFault hours t
-  fault-alike = λ i. form-alike i then range-alike i
+  fault-alike = λ i. form-same hours s t (o .places) i then range-alike i
 
   -- ---- the marks, and the place behind
   row-alike : (j : ℕ) → 3 ≤ j → j < 10 → rowWord hours j s ≡ rowWord hours j t

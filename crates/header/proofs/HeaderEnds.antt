@@ -1,12 +1,12 @@
--- Where a header's lines end: each at the first line feed behind its place, so that a header without fault has its places in order.
+-- Where a header's lines end: each at the first line feed behind its place. So each line of a header without fault has its place and its end.
 use mathlib.Core.Path.{_≡_, refl, sym, _∙_, ap}
 use mathlib.Core.Bool.{Bool, true, false, _&&_}
 use mathlib.Core.List.{List}
 use Prim.Native.Nat.{ℕ, zero, suc, _+_, _-_, _≤_, _<_}
-use native.Mathlib.Nat.{add-zero, add-suc, add-assoc}
+use native.Mathlib.Nat.{add-zero, add-assoc}
 use native.Mathlib.Omega.{arith}
 use borrow.Author.Tests.{ltb-true}
-use lib.Dec.{ltb, lit<}
+use lib.Dec.{ltb}
 use lib.ListN.{length, List·getD-eq-default}
 use Rattle.exact.specs.Choice.{if_then_else_}
 use Rattle.exact.proofs.Parts.{by-test}
@@ -17,14 +17,13 @@ use Rattle.text.specs.Text.{byteAt, keyAt}
 use Rattle.text.specs.Number.{digitAt}
 use Rattle.text.specs.declared.Next.{Next}
 use Rattle.text.specs.declared.Next.the-variants.{At, Wrong}
-use Rattle.text.proofs.Numbers.{byte-inside}
 use Rattle.lines.specs.Keys.{keyOf}
 use Rattle.lines.specs.Line.{isAt, andThen, afterFields, lineFeed, lineAt}
 use Rattle.lines.proofs.Along.{closing, Along, Moved, both, neither, choose, never-at, went, moved-then, digit-same, digit-on, key-printed, key-along, fields-along}
-use Rattle.lines.proofs.Ended.{feed-along}
+use Rattle.lines.proofs.Ended.{feed-ends, feed-along}
 use Rattle.header.specs.Header.{digitsAt, rowAt, headerLine, linePlace, headerForm, headerRange, headerFault, nextUnder}
 use Rattle.header.proofs.Digits.{isDigit}
-use Rattle.header.proofs.HeaderLines.{is-at, feed-ends, formAt, startOf}
+use Rattle.header.proofs.HeaderLines.{is-at, formAt, startOf}
 
 -- ---- a line is what stands in front of its line feed, and that
 abbrev pub beforeFeed : (hours j : ℕ) → List ℕ → ℕ → Next
@@ -125,19 +124,20 @@ module _ (hours j : ℕ) (s : List ℕ) (i : ℕ) where
         first = λ m c. let u = before-within m x c (front .1) .1 in omega arith;
       }
 
+-- ---- a header with each line as printed
+pub form-line : (hours : ℕ) (s : List ℕ) → headerForm hours s ≡ clear → (j : ℕ) → j < 11 → isAt (linePlace hours (suc j) s) ≡ true
+unfolding headerForm
+form-line hours s e j u = unless-clear (isAt (linePlace hours (suc j) s)) 1 (suc j) (first-clear (formAt hours s) 11 e j u)
+
 -- ---- a header without fault
 module _ (hours : ℕ) (s : List ℕ) (e : headerFault hours s ≡ clear) where
-  form-clear : headerForm hours s ≡ clear
+  pub form-clear : headerForm hours s ≡ clear
   form-clear = then-clear (headerForm hours s) (headerRange hours s) e .0
-
-  has-line : (j : ℕ) → j < 11 → isAt (linePlace hours (suc j) s) ≡ true
-  unfolding headerForm
-  has-line j u = unless-clear (isAt (linePlace hours (suc j) s)) 1 (suc j) (first-clear (formAt hours s) 11 form-clear j u)
 
   pub clear-start : (j : ℕ) → j < 12 → linePlace hours j s ≡ At (startOf hours s j)
   unfolding linePlace
   clear-start zero u = refl
-  clear-start (suc j) u = is-at (linePlace hours (suc j) s) (has-line j (omega arith))
+  clear-start (suc j) u = is-at (linePlace hours (suc j) s) (form-line hours s form-clear j (omega arith))
 
   pub clear-line : (j : ℕ) → j < 11 → headerLine hours j s (startOf hours s j) ≡ At (startOf hours s (suc j))
   unfolding linePlace
@@ -146,29 +146,5 @@ module _ (hours : ℕ) (s : List ℕ) (e : headerFault hours s ≡ clear) where
   pub clear-ends : (j : ℕ) → j < 11 → LineEnds s (startOf hours s j) (startOf hours s (suc j))
   clear-ends j u = line-ends hours j s (startOf hours s j) (startOf hours s (suc j)) (clear-line j u)
 
-  -- its places rise
-  starts-rise : (j d : ℕ) → j + d < 12 → startOf hours s j + d ≤ startOf hours s (j + d)
-  starts-rise j zero u = rw (add-zero j) (omega arith)
-  starts-rise j (suc d) u =
-      let before = starts-rise j d (omega arith) in
-      let line = clear-ends (j + d) (omega arith) in
-      rw (add-suc j d) (omega arith)
-
-  pub starts-below : (j : ℕ) → j < 11 → startOf hours s j < startOf hours s 11
-  starts-below j u =
-      let all : j + (11 - j) ≡ 11 = omega arith in
-      let rise = rw all at (starts-rise j (11 - j) (omega arith)) in
-      omega arith
-
-  -- and the last, that behind the header, stands in the text, behind its first byte
-  pub clear-place : (linePlace hours 11 s ≡ At (startOf hours s 11)) × (0 < startOf hours s 11) × (startOf hours s 11 ≤ length s)
-  clear-place =
-      let line = clear-ends 10 (omega arith) in
-      let inside = byte-inside s _ 10 (line .feed) (lit< tt) in
-      (clear-start 11 (omega arith), omega arith, omega arith)
-
   pub clear-next : nextUnder (headerFault hours s) hours s ≡ startOf hours s 11
   clear-next = ap (λ (v : Verdict). nextUnder v hours s) e
-
-  pub next-inside : (0 < nextUnder (headerFault hours s) hours s) × (nextUnder (headerFault hours s) hours s ≤ length s)
-  next-inside = rw clear-next (clear-place .1, clear-place .2)

@@ -6,20 +6,16 @@ use Prim.Native.Nat.{ℕ, zero, suc, _+_, _-_, _≤_, _<_}
 use native.Mathlib.Numerals.{add-one}
 use native.Mathlib.Nat.{add-zero, add-suc}
 use native.Mathlib.Omega.{arith}
-use borrow.Author.Tests.{lt-ltb, le-ltb, eqb-true, eq-eqb, ne-eqb}
-use lib.Dec.{eqb}
+use borrow.Author.Tests.{lt-ltb, le-ltb, eq-eqb, ne-eqb}
 use lib.ListN.{getD, set, replicate}
-use Rattle.exact.specs.Choice.{if_then_else_}
 use Rattle.exact.specs.Whole.{upTo}
-use Rattle.exact.proofs.Parts.{by-test}
 use Rattle.tariff.specs.Reply.{Verdict, clear, fault, unless}
 use Rattle.tariff.proofs.Checks.{clear-first, fault-first}
-use Rattle.text.specs.Text.{byteAt, keyAt}
+use Rattle.text.specs.Text.{keyAt}
 use Rattle.text.specs.declared.Next.{Next}
 use Rattle.text.specs.declared.Next.the-variants.{At, Wrong}
 use Rattle.lines.specs.Keys.{keyOf}
 use Rattle.lines.specs.Line.{isAt, placeIn, andThen, lineFeed, lineAt, filled}
-use Rattle.lines.proofs.Along.{never-at}
 use Rattle.lines.proofs.Fill.{filled-at, fill-next}
 use Rattle.header.specs.Header.{digitsAt, rowAt, headerLine, linePlace, headerForm, headerRange, headerFault, digitOn, marksOf}
 use Rattle.header.specs.Places.{Stands, Placed, refusedAt, PlacesRead, marksHeld}
@@ -37,14 +33,6 @@ is-at-first Wrong f e = e
 pub is-at-then : (x : Next) (f : ℕ → Next) → isAt (andThen x f) ≡ true → isAt (f (placeIn x)) ≡ true
 is-at-then (At i) f e = e
 is-at-then Wrong f e = absurd (false≢true e)
-
--- and a line feed that is found
-pub feed-ends : (s : List ℕ) (x k : ℕ) → lineFeed s x ≡ At k → (byteAt s x ≡ 10) × (x + 1 ≡ k)
-unfolding keyAt
-feed-ends s x k =
-    by-test (eqb (byteAt s x) 10) (λ b. (if b then At (x + 1) else Wrong) ≡ At k → (byteAt s x ≡ 10) × (x + 1 ≡ k))
-    (λ h e. (eqb-true (byteAt s x) 10 h, cc))
-    (λ h e. absurd (never-at e))
 
 -- ---- line j at a place
 module _ (hours j : ℕ) (s : List ℕ) (at : ℕ) {r : Next} where

@@ -7,17 +7,14 @@ use lib.Dec.{ltb}
 use lib.ListN.{take}
 use lib.Seq.{getD-take}
 use Rattle.tariff.specs.Sheet.{allTo}
+use Rattle.tariff.proofs.Tests.{all-same}
 use Rattle.text.specs.Text.{byteAt, keyAt}
 use Rattle.text.specs.declared.Next.{Next}
 use Rattle.lines.specs.Keys.{keyOf}
-use Rattle.lines.proofs.Agree.{SamePlace, goes, stops, either, goes-on, key-short, digit, key-same, value, feed, line}
-use Rattle.header.specs.Header.{digitsAt, rowAt, headerLine, linePlace, numberFrom, numberOn, digitFrom, digitOn, headerFault, marksUnder, nextUnder}
-use Rattle.header.proofs.Digits.{isDigit, all-same}
-use Rattle.header.proofs.HeaderAlike.{Alike, fault-alike, marks-under-alike, next-alike}
-
-same-place : {m : ℕ} {x y : Next} → SamePlace m x y → x ≡ y
-same-place (goes i h) = refl
-same-place stops = refl
+use Rattle.lines.proofs.Agree.{SamePlace, goes, stops, either, goes-on, same-place, key-short, digit, key-same, value, feed, line}
+use Rattle.header.specs.Header.{digitsAt, rowAt, headerLine, linePlace, numberFrom, numberOn, digitFrom, digitOn}
+use Rattle.header.proofs.Digits.{isDigit}
+use Rattle.header.proofs.HeaderAlike.{Alike}
 
 module _ (hours : ℕ) (few : hours < 32) (s t : List ℕ) (N : ℕ) (agree : (i : ℕ) → i < N → byteAt s i ≡ byteAt t i) where
   -- ---- a row: a key of at most 8 bytes, the digits and the line's end
@@ -78,16 +75,6 @@ module _ (hours : ℕ) (few : hours < 32) (s t : List ℕ) (N : ℕ) (agree : (i
         numbers = λ j l. number-local j (omega arith);
         digits = λ j l k. digit-local j (omega arith);
       }
-
-  -- ---- the header
-  pub fault-local : 528 ≤ N → headerFault hours s ≡ headerFault hours t
-  fault-local u = fault-alike (alike-local u)
-
-  pub marks-local : 528 ≤ N → marksUnder (headerFault hours s) hours s ≡ marksUnder (headerFault hours t) hours t
-  marks-local u = marks-under-alike (alike-local u)
-
-  pub next-local : 528 ≤ N → nextUnder (headerFault hours s) hours s ≡ nextUnder (headerFault hours t) hours t
-  next-local u = next-alike (alike-local u)
 
 -- the first 16,384 bytes of a text, which are more than enough
 pub decided-alike : (hours : ℕ) → hours < 32 → (s : List ℕ) → Alike hours (take 16384 s) s

@@ -17,9 +17,10 @@ use Rattle.text.specs.declared.Next.the-variants.{At, Wrong}
 use Rattle.text.proofs.Numbers.{byte-inside}
 use Rattle.lines.specs.Keys.{keyOf}
 use Rattle.lines.specs.Line.{isAt, placeIn, andThen, valueIn, lineFeed}
+use Rattle.lines.proofs.Ended.{feed-ends}
 use Rattle.header.specs.Header.{digitsAt, rowAt, headerLine, linePlace, numberFrom, numberOn, digitFrom, digitOn}
 use Rattle.header.specs.Places.{Stands}
-use Rattle.header.proofs.HeaderLines.{is-at, is-at-first, is-at-then, feed-ends}
+use Rattle.header.proofs.HeaderLines.{is-at, is-at-first, is-at-then}
 use Rattle.header.proofs.Digits.{isDigit}
 
 -- ---- a number

@@ -1,6 +1,6 @@
 -- A header is eleven lines: three numbers, seven rows of marks and the closing empty line. It knows FORM and RANGE only. `hours` is the
 -- count of the day's hours, and of each row's digits.
-use mathlib.Core.Bool.{Bool, true, false, _||_}
+use mathlib.Core.Bool.{Bool, false, _||_}
 use mathlib.Core.List.{List}
 use Prim.Native.Nat.{ℕ, zero, suc, _+_}
 use lib.Dec.{ltb, leb, eqb}
@@ -11,7 +11,7 @@ use Rattle.exact.specs.Whole.{eqZ, upTo}
 use Rattle.tariff.specs.declared.Marks.{Marks}
 use Rattle.tariff.specs.Sheet.{allTo}
 use Rattle.tariff.specs.Import.{isMark, isName}
-use Rattle.tariff.specs.Reply.{Verdict, clear, fault, unless, _then_, firstOf}
+use Rattle.tariff.specs.Reply.{FORM, RANGE, Verdict, clear, fault, unless, _then_, firstOf}
 use Rattle.text.specs.declared.Next.{Next}
 use Rattle.text.specs.declared.Next.the-variants.{At, Wrong}
 use Rattle.text.specs.Text.{keyAt}
@@ -61,7 +61,7 @@ digitOn hours j s h = digitFrom h s (andThen (linePlace hours j s) (keyAt (keyOf
 -- ---- the two checks
 
 unfoldable pub headerForm : ℕ → List ℕ → Verdict
-headerForm hours s = firstOf (λ j. unless (isAt (linePlace hours (suc j) s)) 1 (suc j)) 11
+headerForm hours s = firstOf (λ j. unless (isAt (linePlace hours (suc j) s)) FORM (suc j)) 11
 
 -- no category, and (i), (iii), (iv), (v) of 25.2.1
 abbrev pub isCategory : ℕ → Bool
@@ -79,7 +79,7 @@ headerInRange hours (suc (suc (suc zero))) s = allTo (λ h. isCategory (digitOn 
 headerInRange hours (suc (suc (suc (suc j)))) s = allTo (λ h. isBit (digitOn hours (4 + j) s h)) hours
 
 unfoldable pub headerRange : ℕ → List ℕ → Verdict
-headerRange hours s = firstOf (λ j. unless (headerInRange hours j s) 2 (suc j)) 10
+headerRange hours s = firstOf (λ j. unless (headerInRange hours j s) RANGE (suc j)) 10
 
 abbrev pub headerFault : ℕ → List ℕ → Verdict
 headerFault hours s = headerForm hours s then headerRange hours s
@@ -106,7 +106,7 @@ marksOf hours s =
 abbrev pub noMarks : ℕ → Marks
 noMarks hours = record { rtc = false; cat = replicate hours 0; x1 = 0; x2 = 0; x3 = 0; x4 = 0; x5 = 0; x6 = 0 }
 
--- a refused header has no marks, and nothing follows it
+-- a refused header has no marks, and the place behind it is given as 0, which decides nothing: every hour is refused
 abbrev pub marksUnder : Verdict → ℕ → List ℕ → Marks
 marksUnder clear hours s = marksOf hours s
 marksUnder (fault number place) hours s = noMarks hours

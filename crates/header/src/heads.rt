@@ -51,7 +51,7 @@ pub fn places_of(s: &[u8], hours: usize) -> Places
     Places { broken: 0, at }
 }
 
-// The number of a line of one.
+// The number on a line of one field.
 pub fn number_of(s: &[u8], at: usize, j: usize) -> i64
     requires { ⌜ j < 3 ⌝ }
     ensures { λ r. ⌜ r ≡ valueIn (48 + j) (now (s .entry)) at 0 ⌝ }

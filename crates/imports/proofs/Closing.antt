@@ -1,10 +1,9 @@
 -- What stands behind a block's empty line is not read, and the end of the text closes a block as the empty line does.
-use mathlib.Core.Path.{_≡_, refl, sym, ap, fun-ext, _∙_}
+use mathlib.Core.Path.{_≡_, refl, ap, fun-ext}
 use mathlib.Core.List.{List, [], _∷_, _++_}
 use Prim.Native.Nat.{ℕ, _+_}
 use native.Mathlib.Omega.{arith}
 use lib.IntN.{ℤ}
-use lib.Seq.{append-snoc}
 use Rattle.tariff.specs.Import.{blankCurtailed}
 use Rattle.text.specs.declared.Next.{Next}
 use Rattle.text.specs.Text.{byteAt}
@@ -12,10 +11,10 @@ use Rattle.lines.specs.Line.{valueIn}
 use Rattle.lines.specs.Rows.{Rows, counted, brokenRow, rowsAt}
 use Rattle.lines.specs.Pieces.{firstPiece}
 use Rattle.lines.proofs.Along.{closing, Moved, both, neither}
-use Rattle.lines.proofs.Ended.{Ended, line-closed, line-ended, values-ended, lines-ended}
+use Rattle.lines.proofs.Ended.{Ended, line-closed, line-ended, values-ended}
 use Rattle.lines.proofs.RowsEnded.{each-ended, rows-ended}
-use Rattle.lines.proofs.Pieces.{Shares, whole, empty, lines, piece-shares}
-use Rattle.imports.specs.Import.{curtailedOf, curtailedAt, broken, withCurtailed, afterImportLine1, importBlockAt}
+use Rattle.lines.proofs.BlockEnds as ends
+use Rattle.imports.specs.Import.{curtailedOf, curtailedAt, ImportBlock, broken, withCurtailed, afterImportLine1, importBlockAt}
 
 -- the rest of a block, from its counted lines
 rest-same : (v : ℕ → ℤ) (s t : List ℕ) (a b : ℕ) (r : Rows) → curtailedAt s a ≡ curtailedAt t b → withCurtailed v s a r ≡ withCurtailed v t b r
@@ -42,13 +41,11 @@ starts-empty : (s : List ℕ) → byteAt s 0 ≡ 10 → importBlockAt s 0 ≡ br
 unfolding importBlockAt
 starts-empty s e = rw (line-closed s 0 (ap closing e) 38 2 refl)
 
-shared-block : {s t : List ℕ} → Shares s t → importBlockAt s 0 ≡ importBlockAt t 0
-shared-block (whole e) = ap (λ (l : List ℕ). importBlockAt l 0) e
-shared-block {s} {t} (empty f g) = starts-empty s f ∙ sym (starts-empty t g)
-shared-block (lines m o) = block-ended o
+abbrev block : List ℕ → ImportBlock
+block s = importBlockAt s 0
 
 pub piece-decides : (s : List ℕ) → importBlockAt (firstPiece s) 0 ≡ importBlockAt s 0
-piece-decides s = sym (shared-block (piece-shares s))
+piece-decides = ends.piece-decides block (broken 1) starts-empty (λ s t m o. block-ended o)
 
 pub closed-or-ended : (front behind : List ℕ) → importBlockAt (front ++ (10 ∷ 10 ∷ behind)) 0 ≡ importBlockAt (front ++ (10 ∷ [])) 0
-closed-or-ended front behind = ap (λ (l : List ℕ). importBlockAt l 0) (sym (append-snoc front 10 (10 ∷ behind))) ∙ block-ended (lines-ended front behind)
+closed-or-ended = ends.closed-or-ended block (broken 1) starts-empty (λ s t m o. block-ended o)

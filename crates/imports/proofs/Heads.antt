@@ -1,26 +1,22 @@
 -- The first two lines of an import: what the code tells of them, that the place behind them is in the text, and the reply under them.
-use mathlib.Core.Path.{_≡_, refl, sym, _∙_, ap}
+use mathlib.Core.Path.{_≡_, sym, _∙_, ap}
 use mathlib.Core.Bool.{true, false, _&&_}
 use mathlib.Core.List.{List}
 use Prim.Native.Nat.{ℕ, _≤_}
-use native.Mathlib.Omega.{arith}
 use lib.IntN.{ℤ}
 use lib.ListN.{length, drop}
 use Rattle.tariff.specs.declared.Check.the-variants.{Form, Range}
 use Rattle.tariff.specs.declared.Found.the-variants.{Nothing, Fault}
 use Rattle.tariff.specs.Reply.{clear, fault, shown}
 use Rattle.tariff.specs.Import.{isMark, isName, partsTo, ImportReply, refused, outside, settled}
-use Rattle.text.specs.declared.Next.{Next}
+use Rattle.tariff.proofs.Checks.{never-clear}
 use Rattle.text.specs.declared.Next.the-variants.{At, Wrong}
-use Rattle.lines.specs.Line.{placeIn, andThen, lineFeed, lineAt}
+use Rattle.lines.specs.Line.{placeIn, lineFeed}
 use Rattle.lines.specs.Pieces.{restAfter, isSome}
-use Rattle.lines.proofs.Ended.{fed, fed-inside}
+use Rattle.lines.proofs.Ended.{feed-inside}
 use Rattle.imports.specs.declared.head.Head.{Head}
-use Rattle.imports.specs.Import.{headPlace, nameIn, ctsIn, headFault, partAt, importReply}
+use Rattle.imports.specs.Import.{headLine, headPlace, nameIn, ctsIn, headFault, partAt, importReply}
 use Rattle.imports.specs.Read.{HeadRead}
-
-never-clear : {number place : ℕ} → fault number place ≡ clear → ⊥
-never-clear e = let z : _≡_ {A = ℕ} 0 1 = cc in omega arith
 
 module _ (s : List ℕ) where
   -- a head that is refused
@@ -29,11 +25,11 @@ module _ (s : List ℕ) where
       let no : headFault s ≡ clear → ⊥ = λ z. never-clear (sym e ∙ z) in
       record { found = f ∙ sym e; name = λ z. absurd (no z); cts = λ z. absurd (no z); next = λ z. absurd (no z) }
 
-  pub head-line1 : (r : Head) → lineAt 36 2 s 0 ≡ Wrong → r .found ≡ Fault (Form 1) → HeadRead s r
+  pub head-line1 : (r : Head) → headLine s ≡ Wrong → r .found ≡ Fault (Form 1) → HeadRead s r
   unfolding headFault
   head-line1 r e f = refusedBy 1 1 r (rw e) (ap shown f)
 
-  module _ (second : ℕ) (e1 : lineAt 36 2 s 0 ≡ At second) where
+  module _ (second : ℕ) (e1 : headLine s ≡ At second) where
     pub head-line2 : (r : Head) → lineFeed s second ≡ Wrong → r .found ≡ Fault (Form 2) → HeadRead s r
     unfolding headFault headPlace
     head-line2 r e f = refusedBy 1 2 r (rw (e1, e)) (ap shown f)
@@ -55,16 +51,9 @@ module _ (s : List ℕ) where
 
 -- ---- the place behind them is in the text
 
-place-inside : (s : List ℕ) (x : Next) → andThen x (lineFeed s) ≡ headPlace s → placeIn (headPlace s) ≤ length s
-place-inside s x e = go (headPlace s) e
-  where
-    go : (y : Next) → andThen x (lineFeed s) ≡ y → placeIn y ≤ length s
-    go (At k) e = fed-inside s k (fed s k x e)
-    go Wrong e = omega arith
-
 pub head-inside : (s : List ℕ) → placeIn (headPlace s) ≤ length s
 unfolding headPlace
-head-inside s = place-inside s (lineAt 36 2 s 0) refl
+head-inside s = feed-inside s (headLine s)
 
 -- ---- the reply under them
 

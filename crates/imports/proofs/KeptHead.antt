@@ -15,19 +15,19 @@ use Rattle.text.specs.declared.Next.the-variants.{At, Wrong}
 use Rattle.lines.specs.Line.{isAt, placeIn, andThen, lineFeed, lineAt}
 use Rattle.lines.specs.Cut.{emptyIn, behind}
 use Rattle.lines.specs.Pieces.{upToPlace, firstPiece}
-use Rattle.lines.proofs.Along.{closing, Along, Moved, both, neither, went, moved-then, fields-along, values-along}
+use Rattle.lines.proofs.Along.{closing, Along, went, unmoved, moved-then, fields-along, values-along}
 use Rattle.lines.proofs.Ended.{feed-along}
 use Rattle.lines.proofs.Cut.{behind-at, behind-range}
+use Rattle.lines.proofs.Passed.{feed-empty, line-passed}
 use Rattle.lines.proofs.Pieces.{Shares, whole, empty, lines, piece-shares}
-use Rattle.lines.proofs.Agree.{SamePlace, goes, stops, goes-on, value, line, feed}
+use Rattle.lines.proofs.Agree.{SamePlace, goes-on, same-place, value, line, feed}
 use Rattle.intake.proofs.Kept.{FirstKept, short, long}
-use Rattle.imports.specs.Import.{headPlace, nameIn, ctsIn, headFault, importBody}
+use Rattle.imports.specs.Import.{headLine, headPlace, nameIn, ctsIn, headFault, importBody}
 use Rattle.imports.specs.Demand.{SameHead}
-use Rattle.imports.proofs.Passed.{feed-empty, line-passed}
 
 -- line 1 of two texts: the place behind it, and its two values
 record SameLine (s t : List ℕ) : Type 0 where
-  place : lineAt 36 2 s 0 ≡ lineAt 36 2 t 0
+  place : headLine s ≡ headLine t
   name : nameIn s ≡ nameIn t
   cts : ctsIn s ≡ ctsIn t
 
@@ -37,11 +37,7 @@ same-head o e = record { fault = rw (o .place, o .name, o .cts, e); name = o .na
 
 -- ---- by the first bytes: line 1 has 2 fields and at most 33 bytes
 module _ (s t : List ℕ) (N : ℕ) (agree : (i : ℕ) → i < N → byteAt s i ≡ byteAt t i) (enough : 34 ≤ N) where
-  same-place : {m : ℕ} {x y : Next} → SamePlace m x y → x ≡ y
-  same-place (goes i l) = refl
-  same-place stops = refl
-
-  first-line : SamePlace 33 (lineAt 36 2 s 0) (lineAt 36 2 t 0)
+  first-line : SamePlace 33 (headLine s) (headLine t)
   first-line = line s t N agree 36 2 0 33 (omega arith) (omega arith)
 
   agreed-head : SameHead s t
@@ -66,30 +62,26 @@ module _ {s t : List ℕ} where
     name = values-along o 36 0 0 (omega arith);
     cts = values-along o 36 1 0 (omega arith);
   }
-    where
-      unmoved : {k : ℕ} {x y : Next} → Moved 0 0 k x y → x ≡ y
-      unmoved (both j l) = refl
-      unmoved neither = refl
 
   shared-line : Shares s t → SameLine s t
   shared-line (whole e) = record {
-    place = ap (λ (l : List ℕ). lineAt 36 2 l 0) e;
+    place = ap (λ (l : List ℕ). headLine l) e;
     name = ap (λ (l : List ℕ). nameIn l) e;
     cts = ap (λ (l : List ℕ). ctsIn l) e;
   }
   shared-line (empty f g) = along-line 0 (record { same = λ i l. let z : i ≡ 0 = omega arith in rw z (f ∙ sym g); stop = ap closing f })
-  shared-line (lines m o) = along-line m (o .along)
+  shared-line (lines m line next) = along-line m line
 
 module _ (s : List ℕ) where
   piece-line : SameLine s (firstPiece s)
   piece-line = shared-line (piece-shares s)
 
   -- behind line 1 stands a byte of the first piece, for that line holds no empty one
-  cut-place : (i : ℕ) → emptyIn true s 0 ≡ At i → lineAt 36 2 s 0 ≡ lineAt 36 2 (take i s) 0 → headPlace s ≡ headPlace (take i s)
+  cut-place : (i : ℕ) → emptyIn true s 0 ≡ At i → headLine s ≡ headLine (take i s) → headPlace s ≡ headPlace (take i s)
   unfolding headPlace keyAt
-  cut-place i e same = go (lineAt 36 2 s 0) refl
+  cut-place i e same = go (headLine s) refl
     where
-      go : (x : Next) → lineAt 36 2 s 0 ≡ x → andThen (lineAt 36 2 s 0) (lineFeed s) ≡ andThen (lineAt 36 2 (take i s) 0) (lineFeed (take i s))
+      go : (x : Next) → headLine s ≡ x → andThen (headLine s) (lineFeed s) ≡ andThen (headLine (take i s)) (lineFeed (take i s))
       go (At j) q =
           let inside = behind-range s j i true (sym (line-passed s 36 1 refl j q) ∙ e) .0 in
           rw (← same, q, getD-take i s j 256 inside)
@@ -99,7 +91,7 @@ module _ (s : List ℕ) where
   unfolding firstPiece
   piece-place = go (emptyIn true s 0) refl (piece-line .place)
     where
-      go : (x : Next) → emptyIn true s 0 ≡ x → lineAt 36 2 s 0 ≡ lineAt 36 2 (upToPlace x s) 0 → headPlace s ≡ headPlace (upToPlace x s)
+      go : (x : Next) → emptyIn true s 0 ≡ x → headLine s ≡ headLine (upToPlace x s) → headPlace s ≡ headPlace (upToPlace x s)
       go (At i) e same = cut-place i e same
       go Wrong e same = refl
 
@@ -127,7 +119,7 @@ module _ (s : List ℕ) where
   place-behind : (x : Next) → headPlace s ≡ x → isAt x ≡ true → drop (placeIn x) s ≡ behind s
   unfolding headPlace
   place-behind (At k) e u =
-      let front = went (lineAt 36 2 s 0) (lineFeed s) k e in
+      let front = went (headLine s) (lineFeed s) k e in
       let j = front .0 in
       let next = ap (λ (y : Next). andThen y (lineFeed s)) (sym (front .1)) ∙ e in
       behind-at s 0 k (line-passed s 36 1 refl j (front .1) ∙ feed-empty s j k next)
@@ -138,5 +130,5 @@ module _ (s : List ℕ) where
   clear-behind e =
       let ranges = unless (isName (nameIn s) && isMark (ctsIn s)) 2 1 in
       let second = unless (isAt (headPlace s)) 1 2 in
-      let rest = then-clear (unless (isAt (lineAt 36 2 s 0)) 1 1) (second then ranges) e .1 in
+      let rest = then-clear (unless (isAt (headLine s)) 1 1) (second then ranges) e .1 in
       place-behind (headPlace s) refl (unless-clear (isAt (headPlace s)) 1 2 (then-clear second ranges rest .0))

@@ -1,13 +1,13 @@
 -- An import in bounded memory: what is kept of its text keeps of each piece what decides it, so that the reply is that to the whole text.
 use mathlib.Core.Path.{_≡_, refl, sym, ap, _∙_}
 use mathlib.Core.List.{List}
-use Prim.Native.Nat.{ℕ, zero, suc, _-_, _<_}
+use Prim.Native.Nat.{ℕ, suc, _<_}
 use native.Mathlib.Omega.{arith}
 use Rattle.tariff.specs.Reply.{Verdict, clear, fault}
-use Rattle.lines.specs.Cut.{behind}
-use Rattle.lines.specs.Pieces.{restAfter, isSome}
+use Rattle.lines.specs.Pieces.{restAfter}
+use Rattle.lines.proofs.Pieces.{rest-behind}
 use Rattle.intake.specs.Intake.{keptOf, atFirst}
-use Rattle.intake.proofs.Kept.{FirstKept, short, long, rests, first-piece, surplus}
+use Rattle.intake.proofs.Kept.{FirstKept, short, long, first-piece, piece-kept, follows}
 use Rattle.imports.specs.Import.{headFault, importBody, importBlockAt, importReply}
 use Rattle.imports.specs.Demand.{blockIn, surplusIn, SameHead, same}
 use Rattle.imports.proofs.Heads.{head-refuses}
@@ -22,11 +22,6 @@ block-kept {got} {text} (short e) = sym (piece-decides got) ∙ ap (λ (l : List
 block-kept {got} {text} (long e) = sym (decided got) ∙ ap (λ (l : List ℕ). importBlockAt l 0) e ∙ decided text
 
 -- the pieces of the body are those of the text from the second on
-rest-behind : (k : ℕ) (s : List ℕ) → restAfter k (behind s) ≡ restAfter (suc k) s
-unfolding restAfter
-rest-behind zero s = refl
-rest-behind (suc k) s = ap behind (rest-behind k s)
-
 body-rest : (s : List ℕ) → headFault s ≡ clear → (k : ℕ) → restAfter k (importBody s) ≡ restAfter (suc k) s
 body-rest s e k = ap (restAfter k) (clear-behind s e) ∙ rest-behind k s
 
@@ -38,25 +33,15 @@ module _ (hours : ℕ) (s : List ℕ) where
   head = head-kept (first-piece hours s)
 
   -- ---- each block, and whether bytes follow the last
-  piece-kept : (k : ℕ) → k < hours → FirstKept (restAfter (suc k) got) (restAfter (suc k) s)
-  piece-kept k u =
-      let left : suc hours - suc k ≡ suc (hours - suc k) = omega arith in
-      rw (rests (suc k) (suc hours) s (omega arith), left) (first-piece (hours - suc k) (restAfter (suc k) s))
-
-  follows : isSome (restAfter (suc hours) got) ≡ isSome (restAfter (suc hours) s)
-  follows =
-      let left : suc hours - suc hours ≡ 0 = omega arith in
-      rw (rests (suc hours) (suc hours) s (omega arith), left) (surplus (restAfter (suc hours) s))
-
   module _ (e : headFault s ≡ clear) where
     own : headFault got ≡ clear
     own = head .fault ∙ e
 
     block-same : (k : ℕ) → k < hours → blockIn got k ≡ blockIn s k
-    block-same k u = rw (body-rest got own k, body-rest s e k) (block-kept (piece-kept k u))
+    block-same k u = rw (body-rest got own k, body-rest s e k) (block-kept (piece-kept (suc hours) s (suc k) (omega arith)))
 
     surplus-same : surplusIn hours got ≡ surplusIn hours s
-    surplus-same = rw (body-rest got own hours, body-rest s e hours) follows
+    surplus-same = rw (body-rest got own hours, body-rest s e hours) (follows (suc hours) s)
 
   pub import-settled : importReply hours got ≡ importReply hours s
   import-settled = go (headFault s) refl

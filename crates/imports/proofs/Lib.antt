@@ -6,7 +6,6 @@ pub mod Closing
 pub mod Local
 pub mod Forms
 pub mod Uncounted
-pub mod Passed
 pub mod KeptHead
 pub mod KeptImport
 pub mod Replies

@@ -8,10 +8,12 @@ use lib.IntN.{ℤ, pos}
 use lib.Signed.{_≤ℤ_}
 use Rattle.exact.specs.Whole.{maxℤ, eqZ, sumTo}
 use Rattle.exact.proofs.Parts.{arithℤ, add-parts}
+use Rattle.exact.proofs.Sums.{sum-zeros}
 use Rattle.tariff.specs.Units.{centsOf}
 use Rattle.tariff.specs.Reply.{Verdict, clear, fault}
 use Rattle.tariff.specs.Import.{importFault, importSum, part, stopped, partUnder, importPart, partsTo, Where, outside, inHour, paid, refused}
-use Rattle.tariff.proofs.ImportDays.{grainsIn, IsPart, sum-parts, cents-least}
+use Rattle.tariff.specs.ImportDemand.{grainsIn, IsPart}
+use Rattle.tariff.proofs.ImportDays.{sum-parts, cents-least}
 use Rattle.tariff.proofs.Imports.{part-within, cts-pays-nothing}
 use Rattle.imports.specs.Import.{nameIn, ctsIn, headFault, importBody, ImportBlock, broken, read, partFrom, partAt, importReply}
 use Rattle.imports.specs.Demand.{blockIn, partIn, surplusIn}
@@ -55,11 +57,6 @@ unfolding importPart
 from-nothing (broken line) cts k g n e = absurd (let z : _≡_ {A = ℕ} 0 1 = cc in omega arith)
 from-nothing (read h) cts k g n e = under-nothing (importFault h k) g (rw (cts-pays-nothing cts h n) at e)
 
-sum-nothing : (f : ℕ → ℤ) (n : ℕ) → ((k : ℕ) → k < n → f k ≡ pos 0) → sumTo f n ≡ pos 0
-unfolding sumTo
-sum-nothing f zero h = refl
-sum-nothing f (suc n) h = rw (sum-nothing f n (λ k u. h k (omega arith)), h n (omega arith))
-
 module _ (hours : ℕ) (s : List ℕ) (name g c : ℤ) (n : eqZ (ctsIn s) (pos 0) ≡ false) (e : importReply hours s ≡ paid name g c) where
   each-nothing : (k : ℕ) → k < hours → grainsIn (partIn s k) ≡ pos 0
   unfolding partAt
@@ -71,7 +68,7 @@ module _ (hours : ℕ) (s : List ℕ) (name g c : ℤ) (n : eqZ (ctsIn s) (pos 0
   unfolding centsOf
   cts-nothing =
       let o = paid-exactly hours s name g c .0 e in
-      let none : g ≡ pos 0 = o .grains ∙ sum-nothing (λ k. grainsIn (partIn s k)) hours each-nothing in
+      let none : g ≡ pos 0 = o .grains ∙ sum-zeros (λ k. grainsIn (partIn s k)) hours each-nothing in
       (none, o .cents ∙ ap centsOf none)
 
 -- ---- the mark changes no check

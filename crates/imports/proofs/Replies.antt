@@ -3,42 +3,19 @@ use mathlib.Core.Path.{_≡_, refl, sym, ap, _∙_}
 use mathlib.Core.Bool.{Bool, true, false}
 use mathlib.Core.List.{List}
 use mathlib.Core.Logic.{_↔_}
-use Prim.Native.Nat.{ℕ, _<_, _≤_}
+use Prim.Native.Nat.{ℕ, _≤_}
 use native.Mathlib.Omega.{arith}
 use lib.IntN.{ℤ}
-use Rattle.exact.specs.Whole.{sumTo}
-use Rattle.tariff.specs.Units.{centsOf}
 use Rattle.tariff.specs.Reply.{Verdict, clear, fault}
 use Rattle.tariff.specs.Import.{stopped, Parts, sum, stoppedIn, partsTo, outside, inHour, ImportReply, paid, refused, settled}
-use Rattle.tariff.proofs.ImportDays.{grainsIn, IsPart, FirstRefused, sum-parts, parts-sum}
+use Rattle.tariff.specs.ImportDemand.{FirstRefused}
+use Rattle.tariff.proofs.ImportDays.{sum-parts, parts-sum}
 use Rattle.tariff.proofs.Imports.{first-refused, import-rounded-once}
 use Rattle.lines.specs.Pieces.{restAfter, piece}
 use Rattle.imports.specs.Import.{nameIn, ctsIn, headFault, importBody, ImportBlock, broken, partFrom, partAt, importBlockAt, replyUnder, importReply}
-use Rattle.imports.specs.Demand.{blockIn, partIn, surplusIn}
+use Rattle.imports.specs.Demand.{blockIn, partIn, surplusIn, FirstBroken, Surplus, PaidBy}
 use Rattle.imports.proofs.Closing.{piece-decides}
 use Rattle.imports.proofs.Forms.{part-form, head-order}
-
--- block `hour` has a line that is not as printed, and no block before it is refused
-pub record FirstBroken (hours : ℕ) (s : List ℕ) (hour line : ℕ) : Type 0 where
-  pub head : headFault s ≡ clear
-  pub below : hour < hours
-  pub before : (j : ℕ) → j < hour → IsPart (partIn s j)
-  pub breaks : blockIn s hour ≡ broken line
-
--- no block is refused, and bytes follow the last
-pub record Surplus (hours : ℕ) (s : List ℕ) : Type 0 where
-  pub head : headFault s ≡ clear
-  pub parts : (k : ℕ) → k < hours → IsPart (partIn s k)
-  pub follow : surplusIn hours s ≡ true
-
--- no block is refused, none follows the last, and the sum of all parts becomes cents once
-pub record PaidBy (hours : ℕ) (s : List ℕ) (who g c : ℤ) : Type 0 where
-  pub head : headFault s ≡ clear
-  pub parts : (k : ℕ) → k < hours → IsPart (partIn s k)
-  pub ends : surplusIn hours s ≡ false
-  pub name : who ≡ nameIn s
-  pub grains : g ≡ sumTo (λ k. grainsIn (partIn s k)) hours
-  pub cents : c ≡ centsOf g
 
 -- ---- replies taken apart
 

@@ -14,9 +14,9 @@ use Rattle.tariff.proofs.Checks.{first-same}
 use Rattle.tariff.proofs.Imports.{not-counting-changes-nothing}
 use Rattle.tariff.proofs.ImportDays.{parts-same}
 use Rattle.imports.specs.Import.{ctsIn, ImportBlock, partFrom, partAt, importReply}
-use Rattle.imports.specs.Demand.{blockIn, partIn, surplusIn, SameHead, ApartUncounted, BlocksAlike, same, apart}
+use Rattle.imports.specs.Demand.{blockIn, partIn, surplusIn, SameHead, UncountedApart, BlocksApart, same, apart}
 
-module _ (cts : ℤ) (h g : ImportHour) (o : ApartUncounted cts h g) where
+module _ (cts : ℤ) (h g : ImportHour) (o : UncountedApart cts h g) where
   range-at : (i : ℕ) → Dec (i ≡ o .at) → curtailedInRange (curtailed h i) ≡ curtailedInRange (curtailed g i)
   range-at i (yes e) = rw e (o .range)
   range-at i (no u) = ap curtailedInRange (o .others i u)
@@ -55,11 +55,11 @@ module _ (cts : ℤ) (h g : ImportHour) (o : ApartUncounted cts h g) where
 
 -- ---- blocks and texts
 
-from-alike : {cts : ℤ} {b c : ImportBlock} (k : ℕ) → BlocksAlike cts b c → partFrom b cts k ≡ partFrom c cts k
+from-alike : {cts : ℤ} {b c : ImportBlock} (k : ℕ) → BlocksApart cts b c → partFrom b cts k ≡ partFrom c cts k
 from-alike {cts} k (same e) = ap (λ (b : ImportBlock). partFrom b cts k) e
 from-alike {cts} k (apart h g p q o) = rw (p, q) (part-same cts h g o k)
 
-module _ (hours : ℕ) (s t : List ℕ) (o : SameHead s t) (blocks : (k : ℕ) → k < hours → BlocksAlike (ctsIn s) (blockIn s k) (blockIn t k)) where
+module _ (hours : ℕ) (s t : List ℕ) (o : SameHead s t) (blocks : (k : ℕ) → k < hours → BlocksApart (ctsIn s) (blockIn s k) (blockIn t k)) where
   each-alike : (k : ℕ) → k < hours → partIn s k ≡ partIn t k
   unfolding partAt
   each-alike k u = from-alike k (blocks k u) ∙ ap (λ (cts : ℤ). partFrom (blockIn t k) cts k) (o .cts)

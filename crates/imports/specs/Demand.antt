@@ -1,14 +1,18 @@
--- The words of the import's theorems: its blocks by their places, two texts that begin alike, and hours that differ in an interval that
--- does not count.
+-- The words of the import's theorems: its blocks by their places, when it is refused or paid, two texts that begin alike, and hours that
+-- differ in an interval that does not count.
 use mathlib.Core.Path.{_≡_}
-use mathlib.Core.Bool.{Bool, false}
+use mathlib.Core.Bool.{Bool, true, false}
 use mathlib.Core.List.{List}
-use Prim.Native.Nat.{ℕ}
+use Prim.Native.Nat.{ℕ, _<_}
 use lib.IntN.{ℤ}
+use Rattle.exact.specs.Whole.{sumTo}
 use Rattle.tariff.specs.declared.ImportHour.{ImportHour}
+use Rattle.tariff.specs.Units.{centsOf}
+use Rattle.tariff.specs.Reply.{clear}
 use Rattle.tariff.specs.Import.{curtailed, curtailedInRange, counts, Part}
+use Rattle.tariff.specs.ImportDemand.{grainsIn, IsPart}
 use Rattle.lines.specs.Pieces.{restAfter, isSome}
-use Rattle.imports.specs.Import.{nameIn, ctsIn, headFault, importBody, ImportBlock, read, importBlockAt, partAt}
+use Rattle.imports.specs.Import.{nameIn, ctsIn, headFault, importBody, ImportBlock, broken, read, importBlockAt, partAt}
 
 -- block k of a text, and what it is worth
 abbrev pub blockIn : List ℕ → ℕ → ImportBlock
@@ -21,6 +25,33 @@ partIn s = partAt (ctsIn s) (importBody s)
 abbrev pub surplusIn : (hours : ℕ) → List ℕ → Bool
 surplusIn hours s = isSome (restAfter hours (importBody s))
 
+-- ---- when an import of a day of `hours` hours is refused or paid
+
+-- neither the first two lines nor a block before block `hour` is refused, and `line` is that block's first line that is not as printed
+pub record FirstBroken (hours : ℕ) (s : List ℕ) (hour line : ℕ) : Type 0 where
+  pub head : headFault s ≡ clear
+  pub below : hour < hours
+  pub before : (j : ℕ) → j < hour → IsPart (partIn s j)
+  pub breaks : blockIn s hour ≡ broken line
+
+-- neither the first two lines nor a block is refused, and bytes follow the last block
+pub record Surplus (hours : ℕ) (s : List ℕ) : Type 0 where
+  pub head : headFault s ≡ clear
+  pub parts : (k : ℕ) → k < hours → IsPart (partIn s k)
+  pub follow : surplusIn hours s ≡ true
+
+-- neither the first two lines nor a block is refused, and no bytes follow the last; the import that line 1 names is paid the sum g of
+-- all parts, and its cents c, to which g is rounded down once
+pub record PaidBy (hours : ℕ) (s : List ℕ) (who g c : ℤ) : Type 0 where
+  pub head : headFault s ≡ clear
+  pub parts : (k : ℕ) → k < hours → IsPart (partIn s k)
+  pub ends : surplusIn hours s ≡ false
+  pub name : who ≡ nameIn s
+  pub grains : g ≡ sumTo (λ k. grainsIn (partIn s k)) hours
+  pub cents : c ≡ centsOf g
+
+-- ---- two texts
+
 -- the first two lines of two texts say the same
 pub record SameHead (s t : List ℕ) : Type 0 where
   pub fault : headFault s ≡ headFault t
@@ -28,7 +59,7 @@ pub record SameHead (s t : List ℕ) : Type 0 where
   pub cts : ctsIn s ≡ ctsIn t
 
 -- two hours that differ in one interval, which counts in neither, is as long in both, and in its range in both or in neither
-pub record ApartUncounted (cts : ℤ) (h g : ImportHour) : Type 0 where
+pub record UncountedApart (cts : ℤ) (h g : ImportHour) : Type 0 where
   pub at : ℕ
   pub hour : h .hour ≡ g .hour
   pub den : h .den ≡ g .den
@@ -41,6 +72,6 @@ pub record ApartUncounted (cts : ℤ) (h g : ImportHour) : Type 0 where
   pub range : curtailedInRange (curtailed h at) ≡ curtailedInRange (curtailed g at)
 
 -- two blocks that are the same, or whose hours differ so
-pub data BlocksAlike (cts : ℤ) (b c : ImportBlock) : Type 0 where
-  same : b ≡ c → BlocksAlike cts b c
-  apart : (h g : ImportHour) → b ≡ read h → c ≡ read g → ApartUncounted cts h g → BlocksAlike cts b c
+pub data BlocksApart (cts : ℤ) (b c : ImportBlock) : Type 0 where
+  same : b ≡ c → BlocksApart cts b c
+  apart : (h g : ImportHour) → b ≡ read h → c ≡ read g → UncountedApart cts h g → BlocksApart cts b c

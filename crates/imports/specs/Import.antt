@@ -7,7 +7,7 @@ use lib.ListN.{drop}
 use Rattle.tariff.specs.declared.Curtailed.{Curtailed}
 use Rattle.tariff.specs.declared.ImportHour.{ImportHour}
 use Rattle.tariff.specs.Units.{kw, price, seconds}
-use Rattle.tariff.specs.Reply.{Verdict, clear, fault, unless, _then_}
+use Rattle.tariff.specs.Reply.{FORM, RANGE, Verdict, clear, fault, unless, _then_}
 use Rattle.tariff.specs.Import.{isMark, isName, blankCurtailed, Part, stopped, importPart, partsTo, ImportReply, refused, outside, settled}
 use Rattle.text.specs.declared.Next.{Next}
 use Rattle.text.specs.declared.Next.the-variants.{At, Wrong}
@@ -17,8 +17,12 @@ use Rattle.lines.specs.Pieces.{restAfter, isSome}
 
 -- ---- the first two lines: keys 36 and 37, and an empty line
 
+-- behind line 1, and behind both; or nowhere, where a line is not as printed
+abbrev pub headLine : List ℕ → Next
+headLine s = lineAt 36 2 s 0
+
 unfoldable pub headPlace : List ℕ → Next
-headPlace s = andThen (lineAt 36 2 s 0) (lineFeed s)
+headPlace s = andThen (headLine s) (lineFeed s)
 
 abbrev pub nameIn : List ℕ → ℤ
 nameIn s = valueIn 36 s 0 0
@@ -28,9 +32,9 @@ ctsIn s = valueIn 36 s 0 1
 
 unfoldable pub headFault : List ℕ → Verdict
 headFault s =
-    unless (isAt (lineAt 36 2 s 0)) 1 1
-    then unless (isAt (headPlace s)) 1 2
-    then unless (isName (nameIn s) && isMark (ctsIn s)) 2 1
+    unless (isAt (headLine s)) FORM 1
+    then unless (isAt (headPlace s)) FORM 2
+    then unless (isName (nameIn s) && isMark (ctsIn s)) RANGE 1
 
 abbrev pub importBody : List ℕ → List ℕ
 importBody s = drop (placeIn (headPlace s)) s
@@ -74,7 +78,7 @@ importBlockAt s from = afterImportLine1 (lineAt 38 3 s from) s from
 
 -- FORM comes before every other check
 abbrev pub partFrom : ImportBlock → (cts : ℤ) → ℕ → Part
-partFrom (broken line) cts k = stopped 1 line
+partFrom (broken line) cts k = stopped FORM line
 partFrom (read h) cts k = importPart cts h k
 
 -- the part of block place k of a body. An hour without a block is an empty block

@@ -37,7 +37,8 @@ pub fn plus(sum: Grains, part: Grains) -> Grains
     Grains(sum.0 + part.0)
 }
 
-// The refusal of block k, handed on with its hour. What is worth a part is never handed on.
+// The refusal of block k, handed on with its hour. What is worth a part is never handed on, and no form of the language leaves that
+// arm out.
 pub fn handed_on(answer: Worth, k: usize) -> ImportAnswer
     ensures { λ r. ⌜ ((number place : ℕ) → worthTold answer ≡ stopped number place → importTold r ≡ refused number (inHour k) place) ⌝ }
 {

@@ -5,7 +5,7 @@ use mathlib.Core.List.{List, [], _∷_, _++_, append-nil, append-assoc}
 use Prim.Native.Nat.{ℕ, zero, suc, _+_, _*_, _-_, _≤_, _<_}
 use native.Mathlib.Nat.{add-zero, zero-add}
 use native.Mathlib.Omega.{arith}
-use borrow.Author.Tests.{leb-true, leb-false, eqb-true, eqb-false}
+use borrow.Author.Tests.{leb-true, leb-false, eqb-true, eqb-false, ne-eqb}
 use lib.Dec.{eqb}
 use lib.ListN.{length, take, drop, length-append}
 use lib.Seq.{take-at, length-take-le}
@@ -192,12 +192,24 @@ first-piece p s = go (first-kept s p (atFirst (suc p)) refl)
     go (whole h) = short (rw (first-is (keptOf (atFirst (suc p)) s), first-is s) h)
     go (front h) = long h
 
--- ---- behind the last piece, whether anything stands there
+-- ---- so with each piece, and whether anything stands behind the last
 
-pub surplus : (s : List ℕ) → isSome (keptOf (atFirst 0) s) ≡ isSome s
+pub some-kept : (pieces : ℕ) (s : List ℕ) → isSome (keptOf (atFirst pieces) s) ≡ isSome s
 unfolding keptOf kept
-surplus [] = refl
-surplus (b ∷ t) = refl
+some-kept pieces [] = refl
+some-kept zero (b ∷ t) = refl
+some-kept (suc p) (b ∷ t) = rw (ne-eqb (suc p) 0 (λ z. omega arith))
+
+module _ (pieces : ℕ) (s : List ℕ) where
+  pub piece-kept : (k : ℕ) → k < pieces → FirstKept (restAfter k (keptOf (atFirst pieces) s)) (restAfter k s)
+  piece-kept k u =
+      let left : pieces - k ≡ suc (pieces - suc k) = omega arith in
+      rw (rests k pieces s (omega arith), left) (first-piece (pieces - suc k) (restAfter k s))
+
+  pub follows : isSome (restAfter pieces (keptOf (atFirst pieces) s)) ≡ isSome (restAfter pieces s)
+  follows =
+      let left : pieces - pieces ≡ 0 = omega arith in
+      rw (rests pieces pieces s (omega arith), left) (some-kept 0 (restAfter pieces s))
 
 -- ---- an example: of a line behind the only piece one byte is kept
 example : keptOf (atFirst 1) (bytes "hour=7\nda=0 n=0\n\nhour=8\n") ≡ bytes "hour=7\nda=0 n=0\n\nh"

@@ -6,9 +6,10 @@ use native.Mathlib.Numerals.{add-one}
 use native.Mathlib.Omega.{arith}
 use borrow.Author.Tests.{le-leb, lt-leb, leb-true}
 use lib.ListN.{length, getD, drop, drop-of-length-le}
-use lib.Seq.{drop-cons, length-sets}
+use lib.Seq.{drop-cons, length-sets, length-take-le}
 use Rattle.exact.specs.Choice.{if_then_else_}
 use Rattle.exact.proofs.Parts.{by-test}
+use Rattle.io.specs.Counts.{Counts}
 use Rattle.intake.specs.declared.Intake.{Intake}
 use Rattle.intake.specs.Intake.{kept, after, placed, hasRoom, afterAll, rowAll}
 use Rattle.intake.proofs.Step.{step, stepped, counted, few}
@@ -63,3 +64,7 @@ within row i (b ∷ t) h =
 pub kept-within : (row other : List ℕ) (i j : Intake) (s : List ℕ) → j ≡ afterAll row i s → length other ≡ length row → i .n ≤ length row
     → j .n ≤ length other
 kept-within row other i j s e f h = rw (e, f) (within row i s h)
+
+-- so much of a row can be lent on
+pub counts : (n : ℕ) (row : List ℕ) → n ≤ length row → Counts n row
+counts n row h = (h, sym (length-take-le n row h))

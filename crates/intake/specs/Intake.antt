@@ -1,8 +1,8 @@
 -- A text of any length in bounded memory: of each piece, cut at the empty lines, a program keeps the first 16,384 bytes, which decide it,
 -- and its empty line; of what follows the last piece, one byte.
-use mathlib.Core.Bool.{Bool, true, false, _&&_}
+use mathlib.Core.Bool.{Bool, true, _&&_}
 use mathlib.Core.List.{List, [], _∷_, _++_}
-use Prim.Native.Nat.{ℕ, zero, suc, _+_, _-_}
+use Prim.Native.Nat.{ℕ, _+_, _-_}
 use lib.Dec.{ltb, leb, eqb}
 use lib.ListN.{length, take, drop}
 use Rattle.exact.specs.Choice.{if_then_else_}
@@ -12,7 +12,8 @@ use Rattle.intake.specs.declared.Intake.{Intake}
 abbrev pub closing : Intake → ℕ → Bool
 closing i b = i .start && eqb b 10
 
--- what is kept of the next byte. A piece that is cut short gets a byte that no line can have, so that its empty line is one
+-- what is kept of the next byte. A piece that is cut short gets an `x`: the LF behind it ends the line that was cut, and the next LF is its
+-- empty line
 unfoldable pub kept : Intake → ℕ → List ℕ
 kept i b =
     if eqb (i .left) 0

@@ -3,11 +3,12 @@ ghost use mathlib.Core.Path.{_≡_};
 ghost use mathlib.Core.Bool.{true};
 ghost use Prim.Native.Nat.{_+_, _-_, _≤_};
 ghost use lib.ListN.{length};
+ghost use Rattle.io.specs.Counts.{Counts};
 ghost use Rattle.intake.specs.Intake.{after, kept, placed, afterAll, rowAll, atFirst};
 use libc::STDIN_FILENO;
 
 // How far a text is taken in: `n` bytes are kept, `run` of them of this piece, a line begins here or not, and `left` pieces are
-// still to close.
+// still to close. `run` goes no further than 16,384; behind the last piece it is 1 once a byte was kept.
 pub struct Intake {
     pub n: usize,
     pub run: usize,
@@ -66,8 +67,8 @@ fn surplus(row: &mut [u8], i: Intake, b: u8) -> Intake
     }
 }
 
-// Of a piece of which enough is kept only its empty line still is, behind a byte that no line can have, so that its first line
-// feed ends a line.
+// Of a piece of which enough is kept only its empty line still is, behind an `x`: the first line feed ends the line that was cut, the
+// second is the empty line.
 fn pass(row: &mut [u8], i: Intake, b: u8) -> Intake
     requires { ⌜ (i .n + 3 ≤ length (now row)) × (i .left ≡ 0 → ⊥) × (16384 ≤ i .run) ⌝ }
     ensures state { λ r. ⌜ r ≡ after i b ⌝ }
@@ -146,7 +147,7 @@ pub fn keep(row: &mut [u8], i: Intake, bytes: &[u8]) -> Intake
 // Takes in standard input to its end, or until no further byte can matter; answers how many bytes of the row are kept. Nothing
 // says that an input ends, so the turns are counted down from a number that no run uses up.
 pub fn take_in(row: &mut [u8], pieces: usize) -> usize
-    ensures { λ r. ⌜ r ≤ length (now (row .exit)) ⌝ }
+    ensures { λ r. ⌜ Counts r (now (row .exit)) ⌝ }
 {
     let mut chunk = io::large_buffer();
     let mut i = at_first(pieces);

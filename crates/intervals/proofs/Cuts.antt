@@ -1,34 +1,31 @@
 -- Kilowatts of a reduction: how far one power lies above another, as a `u64`, and a power less a cut, as an `i64`.
-use mathlib.Core.Path.{_≡_, refl, sym, _∙_}
+use mathlib.Core.Path.{_≡_, sym, _∙_}
 use mathlib.Core.Bool.{true, false}
-use Prim.Native.Nat.{ℕ, _*_, _^_, _≤_}
+use Prim.Native.Nat.{ℕ, _*_, _≤_}
 use native.Mathlib.Nat.{mul-le-mul}
 use native.Mathlib.Omega.{arith}
-use lib.Dec.{T, ltb, ltb→lt}
-use lib.IntN.{ℤ, pos, negsuc, natAbs, _-ℤ_}
+use lib.Dec.{T}
+use lib.IntN.{ℤ, pos, natAbs, _-ℤ_}
 use lib.Signed.{ltZ, nonNeg}
 use mir.Syntax.{w64}
 use mir.Val.{Fits, SFits}
 use Rattle.exact.specs.Whole.{over, Within}
 use Rattle.exact.proofs.Parts.{arithℤ, apart, less-parts}
-use Rattle.exact.proofs.Bits.{held, Is, leaf, back, fits, gives, is-less}
+use Rattle.exact.proofs.Range.{within-fits}
+use Rattle.exact.proofs.Bits.{held, Is, leaf, back, fits, gives, is-less, lt-held}
+use Rattle.units.proofs.Signs.{natural}
 
 pub product-fits : (p red : ℕ) → p ≤ 4000000 → red ≤ 24000000 → Fits w64 (p * red)
 product-fits p red u v = omega (arith, mul-le-mul u v)
 
 -- ---- from power to a cut
 
--- a whole number that is not negative, as bits without a sign
-natural : {N : ℕ} (z : ℤ) → T (ltb N (2 ^ 63)) → Within N z → ltZ z (pos 0) ≡ false → T (nonNeg z) × Fits w64 (natAbs z) × (natAbs z ≡ over z)
-natural {N} (pos n) t w e = (tt, omega (arith, ltb→lt N (2 ^ 63) t), refl)
-natural (negsuc n) t w e = absurd (let z : _≡_ {A = ℕ} 0 1 = cc in omega arith)
-
 module _ (d live : ℤ) (u : Within 12000000 d) (v : Within 12000000 live) where
   gap : Is 24000000 (held (held d -ℤ held live)) (d -ℤ live)
   gap = back tt (is-less (leaf tt u) (leaf tt v))
 
   below : ltZ (held d) (held live) ≡ ltZ d live
-  below = λ i. ltZ (leaf tt u .same i) (leaf tt v .same i)
+  below = lt-held d live (within-fits tt u .sfits) (within-fits tt v .sfits)
 
   pub gap-held : SFits w64 (held d -ℤ held live)
   gap-held = fits tt (is-less (leaf tt u) (leaf tt v))
@@ -40,7 +37,7 @@ module _ (d live : ℤ) (u : Within 12000000 d) (v : Within 12000000 live) where
     gap-natural : T (nonNeg (d -ℤ live)) × Fits w64 (natAbs (d -ℤ live)) × (natAbs (d -ℤ live) ≡ over (d -ℤ live))
     gap-natural =
         let h : ltZ d live ≡ false = sym below ∙ e in
-        natural (d -ℤ live) tt (gap .range) (omega (arithℤ, less-parts d live, apart (d -ℤ live)))
+        natural (d -ℤ live) (within-fits tt (gap .range) .sfits) (omega (arithℤ, less-parts d live, apart (d -ℤ live)))
 
     pub gap-fits : T (nonNeg (held (held d -ℤ held live))) × Fits w64 (natAbs (held (held d -ℤ held live)))
     gap-fits = rw (gap .same) (gap-natural .0, gap-natural .1)

@@ -15,7 +15,7 @@ use Rattle.tariff.specs.declared.Uol.the-variants.{Missing, At}
 use Rattle.tariff.specs.declared.DayAhead.{DayAhead}
 use Rattle.tariff.specs.declared.Interval.{Interval}
 use Rattle.tariff.specs.Sheet.{aheadInRange, intervalInRange, uolInRange}
-use Rattle.tariff.specs.Derate.{dayAhead, realTime, ofFive, reduction, potential, share, exceeds, reducedBy, isDerated, reduced}
+use Rattle.tariff.specs.Derate.{dayAhead, realTime, ofFive, redTot, potRed, share, exceedsUnder, reducedBy, exceedsRoom, reduced}
 use Rattle.tariff.proofs.Ranges.{capacity-within, uol-fits}
 use Rattle.tariff.proofs.Reduced.{ahead-within, live-within}
 use Rattle.intervals.specs.declared.steps.Cut.{Cut}
@@ -28,8 +28,8 @@ pub limit-within : (v : Interval) (limit : Kw) → intervalInRange v ≡ true �
 limit-within v limit e h = within-lit tt (capacity-within {z = limit .0} (sym (ap uolInRange h) ∙ uol-fits v e))
 
 pub derated-none : (a : DayAhead) (v : Interval) (d : List Kw) → v .uol ≡ Missing → d ≡ kwFive (dayAhead a) → DeratedTo a v (record { exceeds = false; schedules = d })
-unfolding isDerated reduced
-derated-none a v d h e = record { told = sym (ap (exceeds a v) h); kept = λ _. e ∙ sym (ap (λ u. kwFive (reducedBy a v u)) h) }
+unfolding exceedsRoom reduced
+derated-none a v d h e = record { told = sym (ap (exceedsUnder a v) h); kept = λ _. e ∙ sym (ap (λ u. kwFive (reducedBy a v u)) h) }
 
 -- ---- the schedules
 
@@ -49,21 +49,21 @@ module _ (a : DayAhead) (v : Interval) (d live : List Kw) (ed : d ≡ kwFive (da
   ahead-at : kwAt d ≡ dayAhead a
   ahead-at = rw ed (kws-back (dayAhead a) (λ k. refl))
 
-  pots-at : cutAt pot ≡ potential a v
-  pots-at = rw (ep, ed, el) (cuts-back (potential a v) (λ k. refl))
+  pots-at : cutAt pot ≡ potRed a v
+  pots-at = rw (ep, ed, el) (cuts-back (potRed a v) (λ k. refl))
 
   pub pots-small : aheadInRange a ≡ true → intervalInRange v ≡ true → Small pot
   pots-small ea ev =
       rw (ep, ed, el)
-      (smalls (potential a v) (λ j u. within-less (ahead-within a ea j u) (live-within v ev j u) .above))
+      (smalls (potRed a v) (λ j u. within-less (ahead-within a ea j u) (live-within v ev j u) .above))
 
   module _ (limit : Kw) (h : v .uol ≡ At limit) (sum : ℤ) (es : sum ≡ sumTo (kwAt d) 5) (red : ℕ) (er : red ≡ over (sum -ℤ limit .0)) where
-    red-at : red ≡ reduction a (limit .0)
+    red-at : red ≡ redTot a (limit .0)
     red-at = er ∙ ap (λ z. over (z -ℤ limit .0)) (es ∙ ap (λ f. sumTo f 5) ahead-at)
 
-    over-room : isDerated a v ≡ ltb (ofFive (cutAt pot)) red
-    unfolding isDerated
-    over-room = ap (exceeds a v) h ∙ (λ i. ltb (ofFive (sym pots-at i)) (sym red-at i))
+    over-room : exceedsRoom a v ≡ ltb (ofFive (cutAt pot)) red
+    unfolding exceedsRoom
+    over-room = ap (exceedsUnder a v) h ∙ (λ i. ltb (ofFive (sym pots-at i)) (sym red-at i))
 
     pub derated-over : ofFive (cutAt pot) < red → DeratedTo a v (record { exceeds = true; schedules = d })
     derated-over u =

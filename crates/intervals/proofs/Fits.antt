@@ -10,7 +10,7 @@ use Rattle.tariff.specs.declared.DayAhead.{DayAhead}
 use Rattle.tariff.specs.declared.Interval.{Interval}
 use Rattle.tariff.specs.Sheet.{aheadInRange, intervalInRange}
 use Rattle.tariff.specs.Eligible.{lags}
-use Rattle.tariff.specs.Derate.{isDerated}
+use Rattle.tariff.specs.Derate.{exceedsRoom}
 use Rattle.tariff.proofs.Ranges.{interval-fits}
 use Rattle.tariff.proofs.Limits.{limit-within, capped-within}
 use Rattle.tariff.proofs.Others.{others-within}
@@ -36,7 +36,7 @@ no-task : (t : Task) → Exceeds ≡ Ready t → ⊥
 no-task t e = let z : _≡_ {A = ℕ} 0 1 = cc in omega arith
 
 module _ (a : DayAhead) (v : Interval) (ea : aheadInRange a ≡ true) (ev : intervalInRange v ≡ true) where
-  task-fits : isDerated a v ≡ false → Fitting (taskOf a v)
+  task-fits : exceedsRoom a v ≡ false → Fitting (taskOf a v)
   task-fits e =
       let g = interval-fits v ev in
       let close = reduced-within a v ea ev e in
@@ -52,10 +52,10 @@ module _ (a : DayAhead) (v : Interval) (ea : aheadInRange a ≡ true) (ev : inte
   unfolding preparedOf
   prepared-fits t =
       by-test (lags v)
-      (λ b. (if b then Ready idleTask else (if isDerated a v then Exceeds else Ready (taskOf a v))) ≡ Ready t → Fitting t)
+      (λ b. (if b then Ready idleTask else (if exceedsRoom a v then Exceeds else Ready (taskOf a v))) ≡ Ready t → Fitting t)
       (λ _ q. ready-fits idleTask t idle-fits q)
       (λ _.
-      by-test (isDerated a v)
+      by-test (exceedsRoom a v)
       (λ b. (if b then Exceeds else Ready (taskOf a v)) ≡ Ready t → Fitting t)
       (λ _ q. absurd (no-task t q))
       (λ e q. ready-fits (taskOf a v) t (task-fits e) q))

@@ -7,5 +7,6 @@ pub mod Tasks
 pub mod Scans
 pub mod Walks
 pub mod Fits
+pub mod Turns
 pub mod Works
 pub mod Unique

@@ -1,14 +1,14 @@
 -- The scan inside the walk: all that is known at step j as one record, and each way of a turn as one law on it.
-use mathlib.Core.Path.{_≡_, refl, sym, ap, _∙_}
+use mathlib.Core.Path.{_≡_, ap, _∙_}
 use mathlib.Core.Bool.{true, false}
-use Prim.Native.Nat.{ℕ, _+_, _*_, _<_, _≤_}
+use Prim.Native.Nat.{ℕ, _+_, _<_, _≤_}
 use native.Mathlib.Omega.{arith}
 use lib.IntN.{ℤ, pos, _+ℤ_, _-ℤ_, _*ℤ_}
 use lib.Signed.{ltZ}
 use Rattle.exact.specs.Whole.{span, Within}
 use Rattle.exact.proofs.Ring.{*-assoc}
 use Rattle.exact.proofs.Order.{span-some, span-none}
-use Rattle.exact.proofs.Range.{within-more, within-lit, within-mul, within-span}
+use Rattle.exact.proofs.Range.{within-more, within-mul, within-span, within-zero}
 use Rattle.tariff.specs.declared.Curve.{Curve}
 use Rattle.tariff.specs.Units.{grainsOf}
 use Rattle.tariff.specs.Sheet.{endOf, priceOf}
@@ -32,16 +32,21 @@ pub record Scanning (c : Curve) (low high s x cost : ℤ) (j : ℕ) : Type 0 whe
   pub place : Within 2000000 x
   pub going : Going (endOf c) (timed c s) (c .n) 900000000 low high x cost j
 
-pub scan-begins : (c : Curve) (low high s : ℤ) → Stretch c low high s → Scanning c low high s low (pos 0) 0
-scan-begins c low high s t =
+-- what the stretch costs, and how large that can be
+pub record Priced (c : Curve) (low high s cost : ℤ) : Type 0 where
+  pub amount : costUp c low high s ≡ known cost
+  pub size : Within 4000000000000000 cost
+
+pub scan-begins : {c : Curve} {low high s : ℤ} → Stretch c low high s → Scanning c low high s low (pos 0) 0
+scan-begins {c} {low} {high} {s} t =
     record { stretch = t; place = t .lowest; going = begin (endOf c) (timed c s) (c .n) 900000000 low high (t .up) }
 
 -- a run at one price, in grains
 in-grains : (cost e x p s r : ℤ) → r ≡ cost +ℤ grainsOf (e -ℤ x) p s → r ≡ cost +ℤ (e -ℤ x) *ℤ (p *ℤ s)
 in-grains cost e x p s r q = q ∙ ap (λ (z : ℤ). cost +ℤ z) (*-assoc (e -ℤ x) p s)
 
-module _ (c : Curve) (low high s x cost : ℤ) (j : ℕ) (o : Scanning c low high s x cost j) where
-  pub cost-within : Within 4000000000000000 cost
+module _ {c : Curve} {low high s x cost : ℤ} {j : ℕ} (o : Scanning c low high s x cost j) where
+  cost-within : Within 4000000000000000 cost
   cost-within =
       let d : span low x ≤ 4000000 = within-span (o .stretch .lowest) (o .place) in
       within-more (omega arith) (o .going .size)
@@ -56,6 +61,11 @@ module _ (c : Curve) (low high s x cost : ℤ) (j : ℕ) (o : Scanning c low hig
     timed-within : Within 900000000 (timed c s j)
     timed-within = within-mul (o .stretch .fits .prices j more) (o .stretch .seconds)
 
+    -- the cost so far and a run up to e at this step's price: what is added up stays small
+    pub run-within : {e : ℤ} → Within 2000000 e
+        → Within 4000000000000000 cost × Within 2000000 x × Within 2000000 e × Within 1000000 (priceOf c j) × Within 900 s
+    run-within w = (cost-within, o .place, w, o .stretch .fits .prices j more, o .stretch .seconds)
+
     pub scan-past : ltZ x (endOf c j) ≡ false → Scanning c low high s x cost (j + 1)
     scan-past h =
         record {
@@ -64,8 +74,9 @@ module _ (c : Curve) (low high s x cost : ℤ) (j : ℕ) (o : Scanning c low hig
           going = past (endOf c) (timed c s) (c .n) 900000000 low high (o .stretch .up) x cost j (o .going) more h;
         }
 
-    module _ (r : ℤ) (xe : ltZ x (endOf c j) ≡ true) where
-      pub scan-goes-on : ltZ (endOf c j) high ≡ true → r ≡ cost +ℤ grainsOf (endOf c j -ℤ x) (priceOf c j) s → Scanning c low high s (endOf c j) r (j + 1)
+    module _ {r : ℤ} (xe : ltZ x (endOf c j) ≡ true) where
+      pub scan-goes-on : ltZ (endOf c j) high ≡ true → r ≡ cost +ℤ grainsOf (endOf c j -ℤ x) (priceOf c j) s
+          → Scanning c low high s (endOf c j) r (j + 1)
       scan-goes-on eb q =
           record {
             stretch = o .stretch;
@@ -75,26 +86,27 @@ module _ (c : Curve) (low high s x cost : ℤ) (j : ℕ) (o : Scanning c low hig
                 (in-grains cost (endOf c j) x (priceOf c j) s r q);
           }
 
-      module _ (eb : ltZ (endOf c j) high ≡ false) (q : r ≡ cost +ℤ grainsOf (high -ℤ x) (priceOf c j) s) where
-        pub scan-reaches : costUp c low high s ≡ known r
-        unfolding costUp
-        scan-reaches =
-            from-start c low (span low high) s (o .stretch .started)
-            ∙ reaches (endOf c) (timed c s) (c .n) 900000000 low high (o .stretch .up) x cost j (o .going) more r xe eb
-            (in-grains cost high x (priceOf c j) s r q)
-
-        pub scan-within : Within 4000000000000000 r
-        scan-within =
-            let d : span low high ≤ 4000000 = within-span (o .stretch .lowest) (o .stretch .highest) in
-            within-more (omega arith)
-            (grown (endOf c) (timed c s) (c .n) 900000000 low high (o .stretch .up) x cost j (o .going) more high r (o .going .ahead) timed-within
-            (in-grains cost high x (priceOf c j) s r q))
+      pub scan-reaches : ltZ (endOf c j) high ≡ false → r ≡ cost +ℤ grainsOf (high -ℤ x) (priceOf c j) s → Priced c low high s r
+      unfolding costUp
+      scan-reaches eb q =
+          let run = in-grains cost high x (priceOf c j) s r q in
+          let d : span low high ≤ 4000000 = within-span (o .stretch .lowest) (o .stretch .highest) in
+          record {
+            amount =
+                from-start c low (span low high) s (o .stretch .started)
+                ∙ reaches (endOf c) (timed c s) (c .n) 900000000 low high (o .stretch .up) x cost j (o .going) more r xe eb run;
+            size =
+                within-more (omega arith)
+                (grown (endOf c) (timed c s) (c .n) 900000000 low high (o .stretch .up) x cost j (o .going) more high r
+                (o .going .ahead) timed-within run);
+          }
 
 -- ---- where nothing is scanned
 
-pub cost-nothing : (c : Curve) (low high s : ℤ) → ltZ low high ≡ false → costUp c low high s ≡ known (pos 0)
+pub cost-nothing : {c : Curve} {low high s cost : ℤ} → ltZ low high ≡ false → cost ≡ pos 0 → Priced c low high s cost
 unfolding costUp
-cost-nothing c low high s h = no-kilowatt c low (span low high) s (span-none low high h)
+cost-nothing {c} {low} {high} {s} h e =
+    rw e record { amount = no-kilowatt c low (span low high) s (span-none low high h); size = within-zero 4000000000000000 }
 
 pub cost-before : (c : Curve) (low high s : ℤ) → ltZ low high ≡ true → ltZ low (c .start .0) ≡ true → costUp c low high s ≡ none
 unfolding costUp

@@ -2,14 +2,13 @@
 use mathlib.Core.Path.{_≡_, refl, sym, ap, _∙_}
 use mathlib.Core.Bool.{Bool, true, false}
 use mathlib.Core.List.{List}
-use Prim.Native.Nat.{ℕ}
 use lib.IntN.{ℤ, pos, negℤ, _+ℤ_, _-ℤ_, _*ℤ_, +ℤ-idl}
 use lib.Signed.{ltZ, leZ}
 use Rattle.exact.specs.Choice.{if_then_else_}
 use Rattle.exact.specs.Whole.{minℤ, maxℤ, span, Within}
-use Rattle.exact.proofs.Parts.{arithℤ, by-test, min-parts, max-parts}
+use Rattle.exact.proofs.Parts.{arithℤ, by-test}
 use Rattle.exact.proofs.Ring.{expandℤ}
-use Rattle.exact.proofs.Order.{lt-flip, span-none, min-of′, max-of′}
+use Rattle.exact.proofs.Order.{lt-flip, span-none, min-of, min-of′, max-of, max-of′}
 use Rattle.exact.proofs.Range.{within-add, within-less, within-mul, within-min, within-zero, within-lit}
 use Rattle.tariff.specs.declared.Kw.{Kw}
 use Rattle.tariff.specs.declared.Grains.{Grains}
@@ -20,9 +19,10 @@ use Rattle.tariff.specs.declared.Hour.{Hour}
 use Rattle.tariff.specs.Units.{kw, price, seconds, grains, grainsOf}
 use Rattle.tariff.specs.Curve.{Amount, known, none, change, quote, sumUp, integral}
 use Rattle.tariff.specs.Eligible.{lags}
-use Rattle.tariff.specs.Derate.{isDerated, reduced}
+use Rattle.tariff.specs.Derate.{exceedsRoom, reduced}
 use Rattle.tariff.specs.Contributions.{isLower, lowerLimit, upperLimit, lowerGrains, upperGrains, limitOf, cappedOf, energy, energyOf, otherThanEnergy}
 use Rattle.tariff.specs.Hour.{gives, derated, withOthers, outcome}
+use Rattle.tariff.proofs.Curves.{sum-nothing}
 use Rattle.tariff.proofs.Limits.{within-if}
 use Rattle.intervals.specs.declared.steps.Task.{Task}
 use Rattle.intervals.specs.declared.steps.Prepared.the-variants.{Exceeds, Ready}
@@ -35,10 +35,6 @@ change-twice : (f g : ℤ → ℤ) (x : Amount) → change f (change g x) ≡ ch
 change-twice f g (known x) = refl
 change-twice f g none = refl
 
-sum-none : (f : ℤ → Amount) (a : ℤ) (m : ℕ) → m ≡ 0 → sumUp f a m ≡ known (pos 0)
-unfolding sumUp
-sum-none f a m h = rw h
-
 integral-up : (c : Curve) (a b : ℤ) → ltZ b a ≡ false → integral c a b ≡ sumUp (quote c) a (span a b)
 unfolding integral
 integral-up c a b h = let t : leZ a b ≡ true = omega arithℤ in rw t
@@ -49,8 +45,8 @@ integral-down c a b h =
     by-test (leZ a b) (λ t. (if t then sumUp (quote c) a (span a b) else change negℤ (sumUp (quote c) b (span b a))) ≡ change negℤ (sumUp (quote c) b (span b a)))
     (λ e.
     let back : ltZ b a ≡ false = omega arithℤ in
-    sum-none (quote c) a (span a b) (span-none a b h)
-    ∙ ap (change negℤ) (sym (sum-none (quote c) b (span b a) (span-none b a back))))
+    sum-nothing (quote c) a (span a b) (span-none a b h)
+    ∙ ap (change negℤ) (sym (sum-nothing (quote c) b (span b a) (span-none b a back))))
     (λ e. refl)
 
 -- ---- the branches, from the cost of the stretch taken upward
@@ -85,13 +81,7 @@ module _ (da rt : Curve) (D pen s others : ℤ) where
 
   cost-above : (c : Curve) (L : ℤ) → ltZ L D ≡ false → costUp c (minℤ D L) (maxℤ D L) s ≡ change (λ z. z *ℤ s) (sumUp (quote c) D (span D L))
   unfolding costUp
-  cost-above c L e = rw (least D L e, greatest D L e)
-    where
-      least : (a b : ℤ) → ltZ b a ≡ false → minℤ a b ≡ a
-      least a b h = omega (arithℤ, min-parts a b)
-
-      greatest : (a b : ℤ) → ltZ b a ≡ false → maxℤ a b ≡ b
-      greatest a b h = omega (arithℤ, max-parts a b)
+  cost-above c L e = rw (min-of D L e, max-of D L e)
 
   module _ (L : ℤ) where
     lower-task : withOthers others (change (lowerGrains D L pen s) (integral da L D)) ≡ ofCost (taskBy true L) (costUp da (minℤ D L) (maxℤ D L) s)
@@ -143,11 +133,11 @@ unfolding outcome preparedOf taskBy
 task-outcome h v =
     by-test (lags v)
     (λ b.
-    (if b then gives (pos 0) else (if isDerated (h .ahead) v then derated else withOthers (otherThanEnergy (h .ahead) v) (energyOf (h .da) (h .rt) (h .ahead) v)))
-    ≡ ofPrepared (h .da) (h .rt) (if b then Ready idleTask else (if isDerated (h .ahead) v then Exceeds else Ready (taskOf (h .ahead) v))))
+    (if b then gives (pos 0) else (if exceedsRoom (h .ahead) v then derated else withOthers (otherThanEnergy (h .ahead) v) (energyOf (h .da) (h .rt) (h .ahead) v)))
+    ≡ ofPrepared (h .da) (h .rt) (if b then Ready idleTask else (if exceedsRoom (h .ahead) v then Exceeds else Ready (taskOf (h .ahead) v))))
     (λ e. idle-outcome (h .da) (h .rt))
     (λ e.
-    by-test (isDerated (h .ahead) v)
+    by-test (exceedsRoom (h .ahead) v)
     (λ b.
     (if b then derated else withOthers (otherThanEnergy (h .ahead) v) (energyOf (h .da) (h .rt) (h .ahead) v))
     ≡ ofPrepared (h .da) (h .rt) (if b then Exceeds else Ready (taskOf (h .ahead) v)))

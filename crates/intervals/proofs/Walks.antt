@@ -15,11 +15,12 @@ use Rattle.tariff.specs.declared.Grains.{Grains}
 use Rattle.tariff.specs.declared.Hour.{Hour}
 use Rattle.tariff.specs.declared.Found.{Found}
 use Rattle.tariff.specs.declared.Found.the-variants.{Nothing, Fault}
+use Rattle.tariff.specs.declared.Check.{Check}
 use Rattle.tariff.specs.declared.Check.the-variants.{Derate, Reach}
 use Rattle.tariff.specs.Units.{grains}
-use Rattle.tariff.specs.Reply.{Verdict, clear, fault, firstOf}
+use Rattle.tariff.specs.Reply.{Verdict, clear, shown, firstOf}
 use Rattle.tariff.specs.Hour.{interval, gives, derated, unreached, outcome, outcomeAt, faultAt, intervals, contribution}
-use Rattle.tariff.proofs.Checks.{first-clear, clear-first, fault-first}
+use Rattle.tariff.proofs.Checks.{never-clear, first-clear, clear-first, fault-first}
 use Rattle.intervals.specs.declared.steps.Walked.{Walked}
 use Rattle.intervals.specs.Walk.{grainsAt, Bounded, WalkedTo}
 
@@ -70,11 +71,7 @@ walk-excluded h =
       rest = λ _ i u. zeros-at 30 i;
     }
 
--- no fault is found where one is shown
-no-clear : (number place : ℕ) → fault number place ≡ clear → ⊥
-no-clear number place e = let z : _≡_ {A = ℕ} 0 1 = cc in omega arith
-
-module _ (h : Hour) (parts : List Grains) (i : ℕ) (w : Walking h parts i) where
+module _ {h : Hour} {parts : List Grains} {i : ℕ} (w : Walking h parts i) where
   pub walk-ends : h .n ≤ i → WalkedTo h false (walked Nothing parts)
   unfolding intervals
   walk-ends u =
@@ -88,39 +85,31 @@ module _ (h : Hour) (parts : List Grains) (i : ℕ) (w : Walking h parts i) wher
       }
 
   module _ (more : i < h .n) where
-    stops : (number : ℕ) → checkAt h i ≡ fault number (i + 1) → fault number (i + 1) ≡ intervals h false
+    stops : (check : Check) → checkAt h i ≡ shown (Fault check) → WalkedTo h false (walked (Fault check) parts)
     unfolding intervals
-    stops number e =
-        sym (fault-first (checkAt h) (h .n) number (i + 1) (record { at = i; below = more; before = first-clear (checkAt h) i (w .cleared); gives = e }))
+    stops check e =
+        record {
+          first = sym (fault-first (checkAt h) (h .n) _ _ (record { at = i; below = more; before = first-clear (checkAt h) i (w .cleared); gives = e }));
+          long = w .long;
+          bounded = w .bounded;
+          written = λ q. absurd (never-clear q);
+          rest = λ q. absurd (never-clear q);
+        }
 
     pub walk-derated : outcome h (interval h i) ≡ derated → WalkedTo h false (walked (Fault (Derate (i + 1))) parts)
     unfolding outcomeAt
-    walk-derated e =
-        record {
-          first = stops 6 (rw e);
-          long = w .long;
-          bounded = w .bounded;
-          written = λ q. absurd (no-clear 6 (i + 1) q);
-          rest = λ q. absurd (no-clear 6 (i + 1) q);
-        }
+    walk-derated e = stops (Derate (i + 1)) (rw e)
 
     pub walk-unreached : outcome h (interval h i) ≡ unreached → WalkedTo h false (walked (Fault (Reach (i + 1))) parts)
     unfolding outcomeAt
-    walk-unreached e =
-        record {
-          first = stops 7 (rw e);
-          long = w .long;
-          bounded = w .bounded;
-          written = λ q. absurd (no-clear 7 (i + 1) q);
-          rest = λ q. absurd (no-clear 7 (i + 1) q);
-        }
+    walk-unreached e = stops (Reach (i + 1)) (rw e)
 
-    module _ (g : Grains) (room : i < length parts) where
+    module _ (g : Grains) (few : h .n ≤ 30) where
       other : (k : ℕ) → (k ≡ i → ⊥) → grainsAt (set parts i g) k ≡ grainsAt parts k
       other k u = ap (λ (x : Grains). x .0) (getD-set-other parts i k g (grains (pos 0)) u)
 
       here : grainsAt (set parts i g) i ≡ g .0
-      here = ap (λ (x : Grains). x .0) (getD-set-same parts i g (grains (pos 0)) room)
+      here = ap (λ (x : Grains). x .0) (getD-set-same parts i g (grains (pos 0)) (let l = w .long in omega arith))
 
       still-bounded : Within 100000000000000000 (g .0) → Bounded (set parts i g)
       still-bounded b = record { each = λ k. go k (ℕ-discrete k i) }

@@ -1,8 +1,7 @@
 -- What checks 1 to 7 find and the intervals come to, by the way that the work ends.
 use mathlib.Core.Path.{_≡_, refl, sym, ap, _∙_}
 use mathlib.Core.Bool.{Bool}
-use Prim.Native.Nat.{ℕ, _≤_}
-use native.Mathlib.Omega.{arith}
+use Prim.Native.Nat.{_≤_}
 use Rattle.exact.specs.Whole.{sumTo}
 use Rattle.exact.proofs.Sums.{sum-same}
 use Rattle.tariff.specs.declared.Check.{Check}
@@ -10,9 +9,9 @@ use Rattle.tariff.specs.declared.Found.the-variants.{Nothing, Fault}
 use Rattle.tariff.specs.declared.Grains.{Grains}
 use Rattle.tariff.specs.declared.Hour.{Hour}
 use Rattle.tariff.specs.declared.Expected.{Expected}
-use Rattle.tariff.specs.Reply.{shown, clear, fault, _then_}
+use Rattle.tariff.specs.Reply.{shown, clear, _then_}
 use Rattle.tariff.specs.Hour.{form, range, order, curves, secondsSum, blockFault, intervals, contribution, hourSum}
-use Rattle.tariff.proofs.Checks.{then-clear}
+use Rattle.tariff.proofs.Checks.{never-clear, then-clear}
 use Rattle.tariff.proofs.Ranges.{form-says}
 use Rattle.intervals.specs.declared.steps.Walked.{Walked}
 use Rattle.intervals.specs.declared.Contributions.{Contributions}
@@ -25,9 +24,6 @@ no-fault-says h expected e =
     let p = then-clear (form h) (range h then later) e in
     (p .0, then-clear (range h) later (p .1) .0, form-says h (p .0) .2)
 
-no : {number place : ℕ} → fault number place ≡ clear → ⊥
-no e = let z : _≡_ {A = ℕ} 0 1 = cc in omega arith
-
 module _ (h : Hour) (isExcluded : Bool) (expected : Expected) where
   refused : (r : Contributions) (check : Check) → r ≡ refusedBy (Fault check) → (blockFault h expected then intervals h isExcluded) ≡ shown (Fault check)
       → ContributionsOf h isExcluded expected r
@@ -36,10 +32,10 @@ module _ (h : Hour) (isExcluded : Bool) (expected : Expected) where
       record {
         found = sym e;
         long = refl;
-        few = λ q. absurd (no q);
-        written = λ q. absurd (no q);
-        rest = λ q. absurd (no q);
-        sum = λ q. absurd (no q);
+        few = λ q. absurd (never-clear q);
+        written = λ q. absurd (never-clear q);
+        rest = λ q. absurd (never-clear q);
+        sum = λ q. absurd (never-clear q);
         refused = λ other q. ap refusedBy q;
       }
 
@@ -65,5 +61,5 @@ module _ (h : Hour) (isExcluded : Bool) (expected : Expected) where
           written = λ q. of .written clean;
           rest = λ q. of .rest clean;
           sum = λ q. s ∙ sum-same (grainsAt (w .parts)) (contribution h isExcluded) (h .n) (of .written clean);
-          refused = λ check q. absurd (no (sym (ap shown q)));
+          refused = λ check q. absurd (never-clear (sym (ap shown q)));
         }

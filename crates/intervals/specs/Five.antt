@@ -1,6 +1,6 @@
 -- Arrays of five: schedules, and the kilowatts of a reduction.
 use mathlib.Core.Path.{_≡_}
-use mathlib.Core.Bool.{Bool, true, false, _&&_, _||_}
+use mathlib.Core.Bool.{Bool, false, _&&_, _||_}
 use mathlib.Core.List.{List, [], _∷_}
 use Prim.Native.Nat.{ℕ, _*_, _/_, _%_, _<_, _≤_}
 use lib.Dec.{ltb, eqb}
@@ -12,7 +12,7 @@ use Rattle.tariff.specs.declared.Kw.{Kw}
 use Rattle.tariff.specs.declared.DayAhead.{DayAhead}
 use Rattle.tariff.specs.declared.Interval.{Interval}
 use Rattle.tariff.specs.Units.{kw}
-use Rattle.tariff.specs.Derate.{isDerated, reduced}
+use Rattle.tariff.specs.Derate.{exceedsRoom, reduced}
 use Rattle.intervals.specs.declared.steps.Cut.{Cut}
 use Rattle.intervals.specs.declared.steps.Derated.{Derated}
 
@@ -52,5 +52,5 @@ beforeBy x i y j = ltb y x || (eqb x y && ltb i j)
 
 -- an interval's derate: whether it exceeds the room, and the reduced schedules where it does not
 pub record DeratedTo (a : DayAhead) (v : Interval) (r : Derated) : Type 0 where
-  pub told : r .exceeds ≡ isDerated a v
+  pub told : r .exceeds ≡ exceedsRoom a v
   pub kept : r .exceeds ≡ false → r .schedules ≡ kwFive (reduced a v)

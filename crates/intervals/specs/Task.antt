@@ -1,7 +1,5 @@
 -- An interval as the walk takes it: a stretch of one curve to price, and what to make of its cost.
-use mathlib.Core.Path.{_≡_}
-use mathlib.Core.Bool.{Bool, true, false}
-use Prim.Native.Nat.{ℕ}
+use mathlib.Core.Bool.{Bool, true}
 use lib.IntN.{ℤ, pos, _+ℤ_, _-ℤ_, _*ℤ_}
 use lib.Signed.{ltZ}
 use Rattle.exact.specs.Choice.{if_then_else_}
@@ -9,11 +7,10 @@ use Rattle.exact.specs.Whole.{minℤ, maxℤ, span, Within}
 use Rattle.tariff.specs.declared.Curve.{Curve}
 use Rattle.tariff.specs.declared.DayAhead.{DayAhead}
 use Rattle.tariff.specs.declared.Interval.{Interval}
-use Rattle.tariff.specs.declared.Hour.{Hour}
 use Rattle.tariff.specs.Units.{kw, price, seconds, grains, grainsOf}
 use Rattle.tariff.specs.Curve.{Amount, known, none, change, quote, sumUp}
 use Rattle.tariff.specs.Eligible.{lags}
-use Rattle.tariff.specs.Derate.{isDerated, reduced}
+use Rattle.tariff.specs.Derate.{exceedsRoom, reduced}
 use Rattle.tariff.specs.Contributions.{isLower, limitOf, cappedOf, otherThanEnergy}
 use Rattle.tariff.specs.Hour.{Outcome, gives, derated, unreached}
 use Rattle.intervals.specs.declared.steps.Task.{Task}
@@ -44,7 +41,7 @@ taskOf a v =
     }
 
 unfoldable pub preparedOf : DayAhead → Interval → Prepared
-preparedOf a v = if lags v then Ready idleTask else (if isDerated a v then Exceeds else Ready (taskOf a v))
+preparedOf a v = if lags v then Ready idleTask else (if exceedsRoom a v then Exceeds else Ready (taskOf a v))
 
 -- the stretch of a task, upward, and its curve
 abbrev pub lowOf : Task → ℤ

@@ -1,7 +1,5 @@
 // The intervals of a curtailed import's block: which of them count, what each gives, and their sum.
 ghost use mathlib.Core.Path.{_≡_};
-ghost use mathlib.Core.Bool.{Bool};
-ghost use lib.IntN.{ℤ};
 ghost use Rattle.exact.specs.Whole.{Within};
 ghost use Rattle.tariff.specs.declared.ImportHour.{ImportHour};
 ghost use Rattle.tariff.specs.Reply.{clear};
@@ -37,8 +35,8 @@ pub fn curtailed_part(den: Kw, dec: Price, v: Curtailed, cts: i64) -> Grains
     if !is_counted(den, v, cts) {
         return Grains(0);
     }
-    let gap = sums::kw_less(den, v.rten);
-    let gain = sums::price_less(v.lbmp, units::price_or_zero(dec));
+    let gap = sums::kw_minus(den, v.rten);
+    let gain = sums::price_minus(v.lbmp, units::price_or_zero(dec));
     sums::product(gap, gain, v.s)
 }
 

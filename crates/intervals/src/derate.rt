@@ -1,12 +1,12 @@
 // The derate of an interval: five schedules, potentials, remainders and shares, each an array by value.
 ghost use mathlib.Core.Path.{_≡_};
-ghost use mathlib.Core.Bool.{Bool, true, false};
-ghost use Prim.Native.Nat.{ℕ, _+_, _-_, _<_, _≤_};
+ghost use mathlib.Core.Bool.{true, false};
+ghost use Prim.Native.Nat.{_+_, _-_, _<_, _≤_};
 ghost use lib.Dec.{ltb};
-ghost use lib.IntN.{ℤ, pos, _-ℤ_};
+ghost use lib.IntN.{pos, _-ℤ_};
 ghost use Rattle.exact.specs.Whole.{over, sumTo, Within};
 ghost use Rattle.tariff.specs.Sheet.{aheadInRange, intervalInRange};
-ghost use Rattle.tariff.specs.Derate.{dayAhead, realTime, reduction, potential, ofFive, floorOf, remainder, leftOver, isBefore, one, rank, share};
+ghost use Rattle.tariff.specs.Derate.{dayAhead, realTime, ofFive, floorOf, remainder, one, rank, share};
 ghost use Rattle.intervals.specs.Five.{kwFive, cutFive, kwAt, cutAt, Close, Small, floorBy, remainderBy, beforeBy, DeratedTo};
 use crate::steps::Cut;
 use crate::steps::Derated;
@@ -174,7 +174,7 @@ pub fn share_of(low: Cut, rank: u64, left: Cut) -> Cut
     if rank < left.0 { Cut(low.0 + 1) } else { low }
 }
 
-pub fn cut_less(a: Cut, b: Cut) -> Cut
+pub fn cut_minus(a: Cut, b: Cut) -> Cut
     requires { ⌜ b .0 ≤ a .0 ⌝ }
     ensures { λ r. ⌜ r .0 ≡ a .0 - b .0 ⌝ }
 {
@@ -188,7 +188,7 @@ pub fn shares(pot: [Cut; 5], red: Cut) -> [Cut; 5]
     let room = total(pot);
     let low = floors(pot, red, room);
     let rem = remainders(pot, red, room);
-    let left = cut_less(red, total(low));
+    let left = cut_minus(red, total(low));
     [
         share_of(low[0], rank_of(rem, rem[0], 0), left),
         share_of(low[1], rank_of(rem, rem[1], 1), left),

@@ -1,13 +1,11 @@
-// The energy branch of an interval: lower or upper, and its limit.
+// The energy branch of an interval: lower or upper, and its limit. `d`, `live`, `e` and `a` are document 01's D, R, E and A.
 ghost use mathlib.Core.Path.{_≡_};
-ghost use mathlib.Core.Bool.{Bool};
-ghost use lib.IntN.{ℤ};
 ghost use Rattle.exact.specs.Whole.{Within};
 ghost use Rattle.tariff.specs.Contributions.{capped, isLower, lowerLimit, isInject, isWithdraw, upperLimit, limitOf};
 use crate::sums;
 use tariff::Kw;
 
-// Output above the schedule and its compensable overgeneration is not counted.
+// Output above the schedule and its compensable overgeneration is not counted, where the schedule is above 0.
 pub fn capped_output(live: Kw, ae: Kw, co: Kw) -> Kw
     requires { ⌜ Within 2000000 (live .0) × Within 2000000 (co .0) ⌝ }
     ensures { λ r. ⌜ r .0 ≡ capped (live .0) (ae .0) (co .0) ⌝ }

@@ -1,8 +1,7 @@
 // The contributions of an hour's intervals, behind checks 1 to 7: everything of the hour call but the lent row. And what the block
 // of a curtailed import gives to its day, behind checks 1, 2, 3 and 5.
 ghost use mathlib.Core.Path.{_≡_};
-ghost use Prim.Native.Nat.{ℕ, _≤_};
-ghost use lib.IntN.{ℤ};
+ghost use Prim.Native.Nat.{_≤_};
 ghost use Rattle.exact.specs.Whole.{sumTo};
 ghost use Rattle.tariff.specs.Reply.{clear};
 ghost use Rattle.tariff.specs.Hour.{form, range};
@@ -103,5 +102,5 @@ pub fn import_part(h: ImportHour, cts: i64, k: usize) -> Worth
         return Worth::Refused(check);
     }
     let sum = curtailed::curtailed_sum(h, cts);
-    Worth::Part(units::grains_or_zero(sum))
+    Worth::Part(units::gain_or_zero(sum))
 }

@@ -5,7 +5,7 @@ use tariff::Kw;
 use tariff::Price;
 use tariff::Seconds;
 
-// Kilowatts of a reduction: never negative.
+// Kilowatts of a reduction, or what its sharing leaves over in parts of the room: never negative.
 pub struct Cut(pub u64);
 
 // The five schedules of an interval after its derate; `exceeds` where the reduction has no room.

@@ -1,5 +1,6 @@
 // Sums, differences and products of the units, one operation to a function. Kilowatts, prices and grains are types of their own,
-// so none can be added to another, and only a product of kilowatts and a price with seconds makes grains.
+// so none can be added to another, and only a product of kilowatts and a price with seconds makes grains; movement at its price
+// does as well.
 ghost use mathlib.Core.Path.{_≡_};
 ghost use lib.IntN.{ℤ, _+ℤ_, _-ℤ_};
 ghost use Rattle.exact.specs.Whole.{Within};
@@ -10,7 +11,7 @@ use tariff::MovePrice;
 use tariff::Price;
 use tariff::Seconds;
 
-pub fn kw_less(a: Kw, b: Kw) -> Kw
+pub fn kw_minus(a: Kw, b: Kw) -> Kw
     requires { ⌜ Within 2000000 (a .0) × Within 2000000 (b .0) ⌝ }
     ensures { λ r. ⌜ r .0 ≡ a .0 -ℤ b .0 ⌝ }
 {
@@ -32,14 +33,14 @@ pub fn kw_sum(sum: Kw, k: Kw) -> Kw
     Kw(sum.0 + k.0)
 }
 
-pub fn price_less(a: Price, b: Price) -> Price
+pub fn price_minus(a: Price, b: Price) -> Price
     requires { ⌜ Within 1000000 (a .0) × Within 1000000 (b .0) ⌝ }
     ensures { λ r. ⌜ r .0 ≡ a .0 -ℤ b .0 ⌝ }
 {
     Price(a.0 - b.0)
 }
 
-pub fn move_less(a: MovePrice, b: MovePrice) -> MovePrice
+pub fn move_minus(a: MovePrice, b: MovePrice) -> MovePrice
     requires { ⌜ Within 1000000 (a .0) × Within 1000000 (b .0) ⌝ }
     ensures { λ r. ⌜ r .0 ≡ a .0 -ℤ b .0 ⌝ }
 {
@@ -68,7 +69,7 @@ pub fn grains_plus(a: Grains, b: Grains) -> Grains
     Grains(a.0 + b.0)
 }
 
-pub fn grains_less(a: Grains, b: Grains) -> Grains
+pub fn grains_minus(a: Grains, b: Grains) -> Grains
     requires { ⌜ Within 4000000000000000000 (a .0) × Within 4000000000000000000 (b .0) ⌝ }
     ensures { λ r. ⌜ r .0 ≡ a .0 -ℤ b .0 ⌝ }
 {

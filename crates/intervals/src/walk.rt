@@ -1,7 +1,7 @@
 // Checks 6 and 7 and the contributions: one loop over the intervals, with the scan of the curve's steps inside.
 ghost use mathlib.Core.Path.{_≡_};
-ghost use mathlib.Core.Bool.{Bool, true, false};
-ghost use Prim.Native.Nat.{ℕ, _<_, _≤_};
+ghost use mathlib.Core.Bool.{true, false};
+ghost use Prim.Native.Nat.{_<_};
 ghost use lib.IntN.{ℤ, _+ℤ_, _-ℤ_};
 ghost use Rattle.exact.specs.Whole.{Within};
 ghost use Rattle.tariff.specs.Units.{grainsOf};
@@ -75,7 +75,7 @@ pub fn cost_plus(cost: Grains, x: Kw, e: Kw, p: Price, s: Seconds) -> Grains
     requires { ⌜ Within 4000000000000000 (cost .0) × Within 2000000 (x .0) × Within 2000000 (e .0) × Within 1000000 (p .0) × Within 900 (s .0) ⌝ }
     ensures { λ r. ⌜ r .0 ≡ cost .0 +ℤ grainsOf (e .0 -ℤ x .0) (p .0) (s .0) ⌝ }
 {
-    sums::grains_plus(cost, sums::product(sums::kw_less(e, x), p, s))
+    sums::grains_plus(cost, sums::product(sums::kw_minus(e, x), p, s))
 }
 
 // The integral from D to the limit: taken downward it is the negative of the upward one.
@@ -84,7 +84,7 @@ pub fn signed_cost(t: Task, cost: Grains) -> Grains
     ensures { λ r. ⌜ r .0 ≡ signedCost t (cost .0) ⌝ }
 {
     if units::below(t.limit, t.from) {
-        sums::grains_less(Grains(0), cost)
+        sums::grains_minus(Grains(0), cost)
     } else {
         cost
     }
@@ -95,13 +95,13 @@ pub fn finish(t: Task, cost: Grains) -> Grains
     requires { ⌜ Fitting t × Within 4000000000000000 (cost .0) ⌝ }
     ensures { λ r. ⌜ r .0 ≡ finished t (cost .0) ⌝ }
 {
-    let sold = sums::product(sums::kw_less(t.from, t.limit), t.pen, t.s);
+    let sold = sums::product(sums::kw_minus(t.from, t.limit), t.pen, t.s);
     let signed = signed_cost(t, cost);
     let energy = sums::grains_plus(sold, signed);
     if t.lower {
         sums::grains_plus(energy, t.others)
     } else {
-        sums::grains_plus(units::grains_or_loss(energy), t.others)
+        sums::grains_plus(units::loss_or_zero(energy), t.others)
     }
 }
 

@@ -8,7 +8,7 @@ use lib.IntN.{ℤ, pos}
 use Rattle.exact.specs.Whole.{sumTo}
 use Rattle.tariff.specs.declared.Hour.{Hour}
 use Rattle.tariff.specs.declared.Expected.the-variants.{Any, Says}
-use Rattle.tariff.specs.Reply.{paid, refused, clear, fault}
+use Rattle.tariff.specs.Reply.{paid, refused, ORDER, REACH, clear, fault}
 use Rattle.tariff.specs.Eligible.{near, excluded}
 use Rattle.tariff.specs.Hour.{range, reply}
 use Rattle.tariff.specs.Demand.{FirstUnpriced, NoFaultTo4, NoFaultTo5, Extends}
@@ -21,8 +21,8 @@ use Rattle.ledger.specs.Day.{bodyOf, dayReply, total, none, dayTotal}
 use Rattle.ledger.specs.Demand.{centsIn, Pays, PricedAlike, DaysApart}
 use Rattle.ledger.proofs.HourOfDay.{hour-refused, own-block, another-hour, its-own-hour}
 use Rattle.ledger.proofs.MarksOfDay.{mark-near, marks-without-rtc}
-use Rattle.ledger.proofs.CurvesOfDay.{day-reach}
-use Rattle.ledger.proofs.TwoDays.{days-priced, hour-extended}
+use Rattle.ledger.proofs.BlocksApart.{day-reach}
+use Rattle.ledger.proofs.TwoDays.{days-priced, hour-extended, days-added}
 use Rattle.ledger.proofs.KeptSheet.{sheet-settled}
 use Rattle.ledger.proofs.SumOfDay.{total-sum, total-refused, total-surplus}
 
@@ -54,7 +54,7 @@ pub another-hour-is-order :
     → blockOf (piece k (bodyOf hours s)) ≡ read h
     → range h ≡ clear
     → (h .hour ≡ pos k → ⊥)
-    → dayReply hours s k ≡ refused 3 1
+    → dayReply hours s k ≡ refused ORDER 1
 another-hour-is-order = another-hour
 
 -- A block that says the hour of its place is answered as where any hour may be said.
@@ -99,7 +99,8 @@ without-rtc-x5-and-x6-move-no-hour = marks-without-rtc
 -- ---- demand 3
 
 -- Only the prices of the kilowatts between D and the limit matter: two days with one header whose blocks differ in their curve lines
--- only, and whose hours' prices agree on every kilowatt that must be priced, have the same answers and the same total.
+-- only, and whose hours are the same, or refused by no check from 1 to 4 and with prices that agree on every kilowatt that must be
+-- priced, have the same answers and the same total.
 pub only-needed-prices-of-a-day-matter :
     (hours : ℕ) (s t : List ℕ)
     → DaysApart hours s t
@@ -110,18 +111,18 @@ pub only-needed-prices-of-a-day-matter :
     → ((k : ℕ) → k < hours → dayReply hours s k ≡ dayReply hours t k) × (dayTotal hours s ≡ dayTotal hours t)
 only-needed-prices-of-a-day-matter = days-priced
 
--- REACH is given exactly when a kilowatt that must be priced has no price: at the first interval that has one, and where no
--- DERATE stands at or before it.
+-- REACH is given exactly when no check from 1 to 5 refuses and a kilowatt that must be priced has no price: at the first interval that
+-- has one, and where no DERATE stands at or before it.
 pub reach-of-an-hour-exactly-when-unpriced :
     (hours : ℕ) (s : List ℕ)
     → headerFault hours s ≡ clear
     → (k i : ℕ) (h : Hour)
     → blockOf (piece k (bodyOf hours s)) ≡ read h
-    → NoFaultTo5 h (Says (pos k))
-    → (dayReply hours s k ≡ refused 7 (i + 1)) ↔ FirstUnpriced h (excluded hours (marksOf hours s) k) i
+    → (dayReply hours s k ≡ refused REACH (i + 1)) ↔ (NoFaultTo5 h (Says (pos k)) × FirstUnpriced h (excluded hours (marksOf hours s) k) i)
 reach-of-an-hour-exactly-when-unpriced = day-reach
 
--- Adding curve to a paid hour of a day changes nothing: with every price that its curves had, and perhaps more, it pays the same.
+-- Adding curve to a paid hour of a day never moves a cent, where the longer curves break no rule of checks 1 to 4: with every price that
+-- its curves had, and perhaps more, it pays the same.
 pub adding-curve-to-an-hour-changes-nothing :
     (hours : ℕ) (s t : List ℕ)
     → DaysApart hours s t
@@ -137,6 +138,18 @@ pub adding-curve-to-an-hour-changes-nothing :
     → dayReply hours s k ≡ paid sum cents
     → dayReply hours t k ≡ paid sum cents
 adding-curve-to-an-hour-changes-nothing = hour-extended
+
+-- So adding curve to any hours of a day whose hours are all paid changes no answer and not the total.
+pub adding-curve-to-a-day-changes-nothing :
+    (hours : ℕ) (s t : List ℕ)
+    → DaysApart hours s t
+    → ((k : ℕ) → k < hours → Pays (dayReply hours s k))
+    → ((k : ℕ) → k < hours → (h g : Hour)
+    → blockOf (piece k (bodyOf hours s)) ≡ read h
+    → blockOf (piece k (bodyOf hours t)) ≡ read g
+    → NoFaultTo4 g (Says (pos k)) × Extends (h .da) (g .da) × Extends (h .rt) (g .rt))
+    → ((k : ℕ) → k < hours → dayReply hours s k ≡ dayReply hours t k) × (dayTotal hours s ≡ dayTotal hours t)
+adding-curve-to-a-day-changes-nothing = days-added
 
 -- ---- the total
 

@@ -1,49 +1,36 @@
 -- From a read or a refused header to the day: its replies and its total.
-use mathlib.Core.Path.{_≡_, refl, sym, ap, _∙_}
-use mathlib.Core.Bool.{Bool, true, false}
+use mathlib.Core.Path.{_≡_, sym, ap, _∙_}
+use mathlib.Core.Bool.{Bool}
 use mathlib.Core.List.{List}
-use Prim.Native.Nat.{ℕ, _+_, _<_, _≤_}
+use Prim.Native.Nat.{ℕ, _<_, _≤_}
 use native.Mathlib.Omega.{arith}
-use borrow.Author.Tests.{eqb-true}
-use lib.Dec.{eqb, lit<}
 use lib.IntN.{pos}
 use lib.ListN.{length, take, drop, replicate}
 use lib.Seq.{take-all}
 use Rattle.exact.specs.Choice.{if_then_else_}
 use Rattle.exact.specs.Whole.{upTo}
-use Rattle.exact.proofs.Parts.{by-test}
 use Rattle.exact.proofs.Sums.{up-same}
 use Rattle.tariff.specs.declared.Answer.the-variants.{Refused}
 use Rattle.tariff.specs.declared.Check.{Check}
 use Rattle.tariff.specs.declared.Expected.the-variants.{Says}
 use Rattle.tariff.specs.declared.Marks.{Marks}
-use Rattle.tariff.specs.Reply.{refused, Verdict, clear, fault, numberOf, placeOf, otherwise}
+use Rattle.tariff.specs.Reply.{Verdict, clear, fault, numberOf, placeOf}
 use Rattle.tariff.specs.Eligible.{marked, excluded}
-use Rattle.text.specs.declared.Next.{Next}
-use Rattle.text.specs.declared.Next.the-variants.{At, Wrong}
-use Rattle.text.specs.Text.{byteAt, keyAt}
-use Rattle.text.proofs.Numbers.{byte-inside}
-use Rattle.lines.specs.Line.{placeIn, andThen, lineFeed}
 use Rattle.lines.specs.Pieces.{restAfter, isSome}
+use Rattle.lines.proofs.Ended.{feed-inside}
 use Rattle.marks.specs.Word.{word}
 use Rattle.marks.proofs.Rows.{marked-word}
 use Rattle.sheet.specs.Block.{blockOf, replyTo}
 use Rattle.header.specs.Header.{headerFault, headerLine, linePlace, marksUnder, nextUnder}
 use Rattle.ledger.specs.declared.Place.{Place}
-use Rattle.ledger.specs.Day.{Sum, none, sumOf, bodyOf, hourReply, dayReply, dayReplies, dayTotal, toldAll}
+use Rattle.ledger.specs.Day.{Sum, none, sumOf, hourReply, dayReply, dayReplies, dayTotal, toldAll}
 use Rattle.ledger.specs.Walk.{wordReply}
-use Rattle.ledger.proofs.Totals.{sum-same, none-paid}
+use Rattle.ledger.proofs.Totals.{sum-same}
 use Rattle.ledger.proofs.Places.{place, told-filled}
+use Rattle.ledger.proofs.HourOfDay.{hour-refused}
+use Rattle.ledger.proofs.SumOfDay.{total-refused}
 
 -- ---- the place behind a header lies in the text: its last line is an LF
-
-feed-inside : (s : List ℕ) (x : Next) → placeIn (andThen x (lineFeed s)) ≤ length s
-unfolding keyAt
-feed-inside s (At i) =
-    by-test (eqb (byteAt s i) 10) (λ b. placeIn (if b then At (i + 1) else Wrong) ≤ length s)
-    (λ h. let u = byte-inside s i 10 (eqb-true (byteAt s i) 10 h) (lit< tt) in omega arith)
-    (λ h. omega arith)
-feed-inside s Wrong = omega arith
 
 next-inside : (v : Verdict) (hours : ℕ) (s : List ℕ) → nextUnder v hours s ≤ length s
 unfolding linePlace headerLine
@@ -56,20 +43,11 @@ header-inside hours s at e = rw e (next-inside (headerFault hours s) hours s)
 module _ (hours : ℕ) (s : List ℕ) where
   -- ---- a refused header
   module _ (check : Check) (e : headerFault hours s ≡ fault (numberOf check) (placeOf check)) where
-    hour-refused : (k : ℕ) → dayReply hours s k ≡ refused (numberOf check) (placeOf check)
-    unfolding dayReply
-    hour-refused k = ap (λ (v : Verdict). otherwise v (hourReply hours (marksUnder v hours s) (drop (nextUnder v hours s) s) k)) e
-
     pub all-refused : toldAll (replicate hours (place (Refused check))) ≡ dayReplies hours s
-    all-refused = told-filled (Refused check) hours ∙ sym (up-same (dayReply hours s) _ hours (λ k u. hour-refused k))
-
-    either-none : (b : Bool) (x : Sum) → x ≡ none → none ≡ (if b then none else x)
-    either-none true x p = refl
-    either-none false x p = sym p
+    all-refused = told-filled (Refused check) hours ∙ sym (up-same (dayReply hours s) _ hours (λ k u. hour-refused hours s _ _ e k))
 
     pub total-withheld : 0 < hours → none ≡ dayTotal hours s
-    unfolding dayTotal
-    total-withheld u = either-none (isSome (restAfter hours (bodyOf hours s))) _ (none-paid (dayReply hours s) hours _ _ u (λ k h. hour-refused k))
+    total-withheld u = sym (total-refused hours s 0 _ _ u (hour-refused hours s _ _ e 0))
 
   -- ---- a header that is read: the marks, the word of its excluded hours, and the place behind it
   module _ (read : headerFault hours s ≡ clear) (m : Marks) (at w : ℕ)

@@ -13,9 +13,9 @@ use Rattle.tariff.specs.Hour.{range, order, reply}
 use Rattle.lines.specs.Pieces.{restAfter, piece}
 use Rattle.sheet.specs.Block.{Block, blockOf, read, replyTo}
 use Rattle.sheet.proofs.ReadHours.{read-sound}
+use Rattle.sheet.proofs.Closing.{piece-decides}
 use Rattle.header.specs.Header.{headerFault, marksOf, marksUnder}
 use Rattle.ledger.specs.Day.{bodyOf, hourReply, dayReply}
-use Rattle.ledger.proofs.FirstBlock.{first-block}
 use Rattle.ledger.proofs.RoomEnough.{any-room}
 
 module _ (hours : ℕ) (s : List ℕ) where
@@ -35,7 +35,7 @@ module _ (hours : ℕ) (s : List ℕ) where
     own-block room h =
         hour-clear e k
         ∙ any-room (excluded hours (marksOf hours s) k) (Says (pos k)) room h (restAfter k (bodyOf hours s))
-        ∙ ap (λ (b : Block). replyTo b (excluded hours (marksOf hours s) k) (Says (pos k)) room) (sym (first-block (restAfter k (bodyOf hours s))))
+        ∙ ap (λ (b : Block). replyTo b (excluded hours (marksOf hours s) k) (Says (pos k)) room) (sym (piece-decides (restAfter k (bodyOf hours s))))
 
     module _ (h : Hour) (b : blockOf (piece k (bodyOf hours s)) ≡ read h) where
       read-reply : dayReply hours s k ≡ reply h (excluded hours (marksOf hours s) k) (Says (pos k)) 30

@@ -1,7 +1,7 @@
 -- A day in bounded memory: a text that keeps of each piece what decides it is settled as the whole text is.
 use mathlib.Core.Path.{_≡_, refl, sym, ap, _∙_}
 use mathlib.Core.List.{List}
-use Prim.Native.Nat.{ℕ, zero, suc, _<_}
+use Prim.Native.Nat.{ℕ, suc, _<_}
 use native.Mathlib.Decide.{decLt}
 use native.Mathlib.Omega.{arith}
 use lib.IntN.{pos}
@@ -10,23 +10,23 @@ use Rattle.tariff.specs.declared.Marks.{Marks}
 use Rattle.tariff.specs.declared.Expected.the-variants.{Says}
 use Rattle.tariff.specs.Reply.{Verdict, clear, fault}
 use Rattle.tariff.specs.Eligible.{excluded}
-use Rattle.lines.specs.Cut.{behind}
 use Rattle.lines.specs.Pieces.{restAfter, isSome}
+use Rattle.lines.proofs.Pieces.{rest-behind}
 use Rattle.intake.proofs.Kept.{FirstKept, short, long}
 use Rattle.sheet.specs.Block.{Block, blockOf, replyTo}
 use Rattle.sheet.proofs.BlockDemands.{first-bytes-decide}
+use Rattle.sheet.proofs.Closing.{piece-decides}
 use Rattle.header.specs.Header.{headerFault, marksOf, marksUnder, nextUnder}
 use Rattle.header.proofs.HeaderLocal.{decided-alike}
 use Rattle.header.proofs.HeaderBehind.{clear-behind}
+use Rattle.header.proofs.HeaderFirst.{SameHeader, alike-header, first-header}
 use Rattle.ledger.specs.Day.{bodyOf, hourReply, dayReply, dayTotal}
-use Rattle.ledger.proofs.FirstBlock.{first-block}
-use Rattle.ledger.proofs.FirstHeader.{SameHeader, alike-header, first-header}
 use Rattle.ledger.proofs.HourOfDay.{hour-clear, hour-refused}
 use Rattle.ledger.proofs.SumOfDay.{total-refused, total-same}
 
 -- ---- a block and a header of which enough is kept
 block-kept : (got text : List ℕ) → FirstKept got text → blockOf got ≡ blockOf text
-block-kept got text (short e) = sym (first-block got) ∙ ap blockOf e ∙ first-block text
+block-kept got text (short e) = sym (piece-decides got) ∙ ap blockOf e ∙ piece-decides text
 block-kept got text (long e) = sym (first-bytes-decide got) ∙ ap blockOf e ∙ first-bytes-decide text
 
 header-kept : (hours : ℕ) → hours < 32 → (got text : List ℕ) → FirstKept got text → SameHeader hours got text
@@ -47,11 +47,6 @@ header-kept hours few got text = go
     go (long e) = via (turned (alike-header (decided-alike hours few got))) (turned (alike-header (decided-alike hours few text))) e
 
 -- ---- the pieces of a sheet: its header, the blocks of its hours, and what follows
-rest-behind : (k : ℕ) (s : List ℕ) → restAfter k (behind s) ≡ restAfter (suc k) s
-unfolding restAfter
-rest-behind zero s = refl
-rest-behind (suc k) s = ap behind (rest-behind k s)
-
 pub record SheetKept (hours : ℕ) (got text : List ℕ) : Type 0 where
   pub header : FirstKept got text
   pub blocks : (k : ℕ) → k < hours → FirstKept (restAfter (suc k) got) (restAfter (suc k) text)

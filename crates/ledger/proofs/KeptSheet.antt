@@ -1,39 +1,21 @@
 -- What is kept of a sheet, its header and a block for each hour, keeps of each of them what decides it.
-use mathlib.Core.Path.{_≡_, refl}
-use mathlib.Core.List.{List, [], _∷_}
-use Prim.Native.Nat.{ℕ, suc, _-_, _≤_, _<_}
+use mathlib.Core.Path.{_≡_}
+use mathlib.Core.List.{List}
+use Prim.Native.Nat.{ℕ, suc, _≤_, _<_}
 use native.Mathlib.Omega.{arith}
-use borrow.Author.Tests.{ne-eqb}
-use Rattle.lines.specs.Pieces.{restAfter, isSome}
-use Rattle.intake.specs.Intake.{kept, keptOf, atFirst}
-use Rattle.intake.proofs.Kept.{FirstKept, rests, first-piece, surplus}
+use Rattle.intake.specs.Intake.{keptOf, atFirst}
+use Rattle.intake.proofs.Kept.{first-piece, some-kept, piece-kept, follows}
 use Rattle.header.specs.Header.{headerFault}
 use Rattle.ledger.specs.Day.{dayReply, dayTotal}
 use Rattle.ledger.proofs.KeptOfDay.{SheetKept, fault-kept, reply-kept, total-kept}
 
-some-kept : (p : ℕ) (s : List ℕ) → isSome (keptOf (atFirst (suc p)) s) ≡ isSome s
-unfolding keptOf kept
-some-kept p [] = refl
-some-kept p (b ∷ t) = rw (ne-eqb (suc p) 0 (λ z. omega arith))
-
-module _ (hours : ℕ) (s : List ℕ) where
-  sheet-kept : SheetKept hours (keptOf (atFirst (suc hours)) s) s
-  sheet-kept = record {
-    header = first-piece hours s;
-    blocks = block;
-    surplus = behind;
-    some = some-kept hours s;
-  }
-    where
-      block : (k : ℕ) → k < hours → FirstKept (restAfter (suc k) (keptOf (atFirst (suc hours)) s)) (restAfter (suc k) s)
-      block k u =
-          let left : suc hours - suc k ≡ suc (hours - suc k) = omega arith in
-          rw (rests (suc k) (suc hours) s (omega arith), left) (first-piece (hours - suc k) (restAfter (suc k) s))
-
-      behind : isSome (restAfter (suc hours) (keptOf (atFirst (suc hours)) s)) ≡ isSome (restAfter (suc hours) s)
-      behind =
-          let left : suc hours - suc hours ≡ 0 = omega arith in
-          rw (rests (suc hours) (suc hours) s (omega arith), left) (surplus (restAfter (suc hours) s))
+sheet-kept : (hours : ℕ) (s : List ℕ) → SheetKept hours (keptOf (atFirst (suc hours)) s) s
+sheet-kept hours s = record {
+  header = first-piece hours s;
+  blocks = λ k u. piece-kept (suc hours) s (suc k) (omega arith);
+  surplus = follows (suc hours) s;
+  some = some-kept (suc hours) s;
+}
 
 -- with the header's verdict the answers of the hours and the total are the same
 pub sheet-settled :

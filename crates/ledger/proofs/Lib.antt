@@ -5,14 +5,11 @@ pub mod Places
 pub mod Walks
 pub mod Days
 pub mod Unique
-pub mod Shut
-pub mod FirstBlock
-pub mod FirstHeader
 pub mod RoomEnough
 pub mod HourOfDay
 pub mod SumOfDay
 pub mod MarksOfDay
-pub mod CurvesOfDay
+pub mod BlocksApart
 pub mod OneHeader
 pub mod TwoDays
 pub mod KeptOfDay

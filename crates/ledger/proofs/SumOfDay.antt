@@ -13,6 +13,7 @@ use Rattle.tariff.specs.Reply.{Reply, paid, refused}
 use Rattle.lines.specs.Pieces.{restAfter, isSome}
 use Rattle.ledger.specs.Day.{bodyOf, dayReply, Sum, total, none, _plus_, sumOf, dayTotal}
 use Rattle.ledger.specs.Demand.{centsIn, Pays}
+use Rattle.ledger.proofs.Totals.{sum-same}
 
 never-none : {c : ℤ} → none ≡ total c → ⊥
 never-none e = let z : _≡_ {A = ℕ} 0 1 = cc in omega arith
@@ -64,11 +65,6 @@ module _ (reply : ℕ → Reply) where
       go : (x : Sum) → sumOf reply n ≡ x → sumOf reply n ≡ none
       go (total c) q = absurd (let p = sum-paid n c q .0 k u .pays in let z : _≡_ {A = ℕ} 0 1 = cc in omega arith)
       go none q = q
-
-pub sum-same : (f g : ℕ → Reply) (n : ℕ) → ((k : ℕ) → k < n → f k ≡ g k) → sumOf f n ≡ sumOf g n
-unfolding sumOf
-sum-same f g zero h = refl
-sum-same f g (suc n) h = rw (sum-same f g n (λ k u. h k (omega arith)), h n (omega arith))
 
 -- ---- the total of a day
 module _ (hours : ℕ) (s : List ℕ) where

@@ -1,5 +1,5 @@
 -- The sum of the paid cents, with one answer more: what it is and how large it can be. A refusal withholds it.
-use mathlib.Core.Path.{_≡_, refl, sym, ap, _∙_}
+use mathlib.Core.Path.{_≡_, refl, sym, ap}
 use Prim.Native.Nat.{ℕ, zero, suc, _+_, _^_, _<_, _≤_}
 use native.Mathlib.Nat.{div-le-of-le-mul}
 use native.Mathlib.Numerals.{add-one}
@@ -34,11 +34,6 @@ sum-same f g (suc n) h = rw (sum-same f g n (λ k u. h k (omega arith)), h n (om
 refusal-withholds : (x : Sum) (number place : ℕ) → (x plus refused number place) ≡ none
 refusal-withholds (total c) number place = refl
 refusal-withholds none number place = refl
-
-pub none-paid : (f : ℕ → Reply) (n number place : ℕ) → 0 < n → ((k : ℕ) → k < n → f k ≡ refused number place) → sumOf f n ≡ none
-unfolding sumOf
-none-paid f zero number place u h = absurd (omega arith)
-none-paid f (suc n) number place u h = ap (λ (r : Reply). sumOf f n plus r) (h n (omega arith)) ∙ refusal-withholds (sumOf f n) number place
 
 -- ---- how large it can be
 

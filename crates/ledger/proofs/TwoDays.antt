@@ -15,11 +15,11 @@ use Rattle.lines.specs.Pieces.{restAfter, isSome, piece}
 use Rattle.sheet.specs.Block.{read, blockOf, replyTo}
 use Rattle.header.specs.Header.{marksOf}
 use Rattle.ledger.specs.Day.{bodyOf, dayReply, dayTotal}
-use Rattle.ledger.specs.Demand.{BlocksApart, PricedAlike, DaysApart}
+use Rattle.ledger.specs.Demand.{Pays, BlocksApart, PricedAlike, DaysApart}
 use Rattle.ledger.proofs.HourOfDay.{own-block}
 use Rattle.ledger.proofs.SumOfDay.{total-same}
 use Rattle.ledger.proofs.OneHeader.{Headed, one-headed, other-headed}
-use Rattle.ledger.proofs.CurvesOfDay.{blocks-alike, blocks-extended}
+use Rattle.ledger.proofs.BlocksApart.{blocks-alike, blocks-extended, blocks-added}
 
 module _ (hours : ℕ) (s t : List ℕ) (d : DaysApart hours s t) where
   abbrev one : Headed hours (marksOf hours (d .head)) s (d .body)
@@ -55,11 +55,32 @@ module _ (hours : ℕ) (s t : List ℕ) (d : DaysApart hours s t) where
         other-reply
         ∙ blocks-extended (piece k (bodyOf hours s)) (piece k (bodyOf hours t)) out (Says (pos k)) (blocks-apart u) h g x y sum cents f da rt (sym one-reply ∙ p)
 
+    pub hour-added : k < hours → Pays (dayReply hours s k)
+        → ((h g : Hour) → blockOf (piece k (bodyOf hours s)) ≡ read h → blockOf (piece k (bodyOf hours t)) ≡ read g
+        → NoFaultTo4 g (Says (pos k)) × Extends (h .da) (g .da) × Extends (h .rt) (g .rt))
+        → dayReply hours s k ≡ dayReply hours t k
+    hour-added u p longer =
+        one-reply
+        ∙ blocks-added (piece k (bodyOf hours s)) (piece k (bodyOf hours t)) out (Says (pos k)) (blocks-apart u) (rw one-reply at p) longer
+        ∙ sym other-reply
+
+  -- with the same answers they have the same total
+  days-same : ((k : ℕ) → k < hours → dayReply hours s k ≡ dayReply hours t k)
+      → ((k : ℕ) → k < hours → dayReply hours s k ≡ dayReply hours t k) × (dayTotal hours s ≡ dayTotal hours t)
+  days-same f = (f, total-same hours s t f behind)
+    where
+      behind : isSome (restAfter hours (bodyOf hours s)) ≡ isSome (restAfter hours (bodyOf hours t))
+      behind = rw (one .behind, other .behind, d .behind)
+
   pub days-priced :
       ((k : ℕ) → k < hours → (h g : Hour) → blockOf (piece k (bodyOf hours s)) ≡ read h → blockOf (piece k (bodyOf hours t)) ≡ read g
       → PricedAlike h g (excluded hours (marksOf hours s) k) (Says (pos k)))
       → ((k : ℕ) → k < hours → dayReply hours s k ≡ dayReply hours t k) × (dayTotal hours s ≡ dayTotal hours t)
-  days-priced alike = (λ k u. hour-priced k u (alike k u), total-same hours s t (λ k u. hour-priced k u (alike k u)) behind)
-    where
-      behind : isSome (restAfter hours (bodyOf hours s)) ≡ isSome (restAfter hours (bodyOf hours t))
-      behind = rw (one .behind, other .behind, d .behind)
+  days-priced alike = days-same (λ k u. hour-priced k u (alike k u))
+
+  pub days-added :
+      ((k : ℕ) → k < hours → Pays (dayReply hours s k))
+      → ((k : ℕ) → k < hours → (h g : Hour) → blockOf (piece k (bodyOf hours s)) ≡ read h → blockOf (piece k (bodyOf hours t)) ≡ read g
+      → NoFaultTo4 g (Says (pos k)) × Extends (h .da) (g .da) × Extends (h .rt) (g .rt))
+      → ((k : ℕ) → k < hours → dayReply hours s k ≡ dayReply hours t k) × (dayTotal hours s ≡ dayTotal hours t)
+  days-added pays longer = days-same (λ k u. hour-added k u (pays k u) (longer k u))

@@ -1,6 +1,6 @@
 -- The walk over a day's blocks: what stands behind each, the answers and the total so far, and where it ends.
 use mathlib.Core.Path.{_≡_, refl, sym, ap, _∙_}
-use mathlib.Core.Bool.{Bool, true, false}
+use mathlib.Core.Bool.{Bool}
 use mathlib.Core.List.{List}
 use Prim.Native.Nat.{ℕ, _+_, _*_, _-_, _<_, _≤_}
 use native.Mathlib.Numerals.{add-one}
@@ -19,7 +19,7 @@ use Rattle.tariff.specs.Reply.{told}
 use Rattle.tariff.specs.Eligible.{marked}
 use Rattle.tariff.proofs.Payments.{paid-once}
 use Rattle.lines.specs.Cut.{behind}
-use Rattle.lines.specs.Pieces.{restAfter, isSome}
+use Rattle.lines.specs.Pieces.{restAfter}
 use Rattle.lines.proofs.Pieces.{Behind, lent-to-the-end, some-left, none-left}
 use Rattle.sheet.specs.Block.{Block, broken, read, blockOf, replyTo}
 use Rattle.ledger.specs.declared.Place.{Place}

@@ -18,13 +18,14 @@ use Rattle.ledger.specs.declared.Total.the-variants.{Of, Withheld}
 
 -- ---- the blocks: what stands behind the header, cut at its empty lines
 
--- a block is read up to its empty line, and an hour without a block is an empty block
+-- the text behind the header
 abbrev pub bodyOf : ℕ → List ℕ → List ℕ
 bodyOf hours s = drop (nextUnder (headerFault hours s) hours s) s
 
 -- ---- the answers
 
--- block k has to say hour k; no block has more intervals than the lent row has room for
+-- a block is read up to its empty line, and an hour without a block is an empty block. Block k has to say hour k; no block has more
+-- intervals than the lent row has room for
 unfoldable pub hourReply : (hours : ℕ) → Marks → List ℕ → ℕ → Reply
 hourReply hours m body k = replyTo (blockOf (restAfter k body)) (excluded hours m k) (Says (pos k)) 30
 

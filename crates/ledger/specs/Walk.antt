@@ -31,7 +31,7 @@ pub record Rounded (r : Reply) : Type 0 where
 pub record UpToCents (N : ℕ) (x : Sum) : Type 0 where
   pub most : (c : ℤ) → x ≡ total c → Within N c
 
--- a sum that 64 bits hold is less than 2,600,000,000,000 cents
+-- a total with one answer more; a sum that 64 bits hold is less than 2,600,000,000,000 cents
 pub record Added (x : Sum) (answer : Reply) (after : Sum) : Type 0 where
   pub told : after ≡ (x plus answer)
   pub most : (N : ℕ) → UpToCents N x → UpToCents (N + 2600000000000) after

@@ -11,7 +11,7 @@ use tariff::Found;
 
 mod blocks;
 
-// The answer of a block place.
+// The answer of a block place: a struct, since an array of enums cannot be a field.
 pub struct Place {
     pub answer: Answer,
 }

@@ -1,15 +1,14 @@
 -- Two texts whose first bytes agree: the numbers, keys, fields and lines read among these bytes are the same, and end among them.
 use mathlib.Core.Path.{_≡_, refl, ap}
-use mathlib.Core.Bool.{Bool, true, false, _&&_}
+use mathlib.Core.Bool.{Bool, true, false}
 use mathlib.Core.List.{List, [], _∷_}
 use Prim.Native.Nat.{ℕ, zero, suc, _+_, _*_, _<_, _≤_}
 use native.Mathlib.Omega.{arith}
 use borrow.Author.Tests.{leb-true}
 use lib.Dec.{leb, eqb}
 use lib.IntN.{ℤ, pos}
-use lib.ListN.{getD, length}
+use lib.ListN.{length}
 use Rattle.exact.specs.Choice.{if_then_else_}
-use Rattle.exact.proofs.Tests.{and-left, and-right}
 use Rattle.text.specs.declared.digits.Digits.{Digits}
 use Rattle.text.specs.declared.digits.Digits.the-variants.{Natural, NoDigits}
 use Rattle.text.specs.declared.Number.{Number}
@@ -20,6 +19,7 @@ use Rattle.text.specs.Text.{byteAt, keyAt}
 use Rattle.text.specs.Number.{digitOf, digitAt, moreDigits, naturalAt, plain, negative, numberAt}
 use Rattle.lines.specs.Keys.{keys, keyOf}
 use Rattle.lines.specs.Line.{missing, orMissing, valueAt, valueAfter, fieldAt, placeOf, valueOf, andThen, afterFields, valueFrom, valueIn, lineFeed, lineAt, closes}
+use Rattle.lines.proofs.Table.{table-all}
 
 -- ---- the same answer of two readings, whose next place, if any, is at most m
 
@@ -44,6 +44,10 @@ pub goes-on : {a m : ℕ} {x y : Next} (f g : ℕ → Next) → SamePlace a x y 
 goes-on f g (goes i h) k = k i h
 goes-on f g stops k = stops
 
+pub same-place : {m : ℕ} {x y : Next} → SamePlace m x y → x ≡ y
+same-place (goes i h) = refl
+same-place stops = refl
+
 place-same : {m : ℕ} {x y : Number} → SameNumber m x y → SamePlace m (placeOf x) (placeOf y)
 place-same (number v i h) = goes i h
 place-same no-number = stops
@@ -62,17 +66,8 @@ negative-same no-digits = no-number
 
 -- ---- no key is longer than eight bytes
 
-abbrev allShort : List (List ℕ) → Bool
-allShort [] = true
-allShort (k ∷ ks) = leb (length k) 8 && allShort ks
-
-short-at : (ks : List (List ℕ)) (k : ℕ) → allShort ks ≡ true → length (getD ks k []) ≤ 8
-short-at [] k e = omega arith
-short-at (x ∷ xs) zero e = leb-true (length x) 8 (and-left (leb (length x) 8) (allShort xs) e)
-short-at (x ∷ xs) (suc k) e = short-at xs k (and-right (leb (length x) 8) (allShort xs) e)
-
 pub key-short : (k : ℕ) → length (keyOf k) ≤ 8
-key-short k = short-at keys k refl
+key-short k = leb-true (length (keyOf k)) 8 (table-all (λ key. leb (length key) 8) keys k refl refl)
 
 -- ---- the readings: a number has at most 8 bytes, a field 16, a line of n fields n * 16 + 1
 

@@ -4,12 +4,11 @@ use mathlib.Core.Bool.{Bool, true, false, not, _&&_, _||_, false≢true}
 use mathlib.Core.List.{List, [], _∷_}
 use Prim.Native.Nat.{ℕ, zero, suc, _+_, _≤_, _<_}
 use native.Mathlib.Decide.{decLt}
-use native.Mathlib.Nat.{add-assoc, not-suc-le-zero, le-of-suc-le-suc}
+use native.Mathlib.Nat.{add-assoc}
 use native.Mathlib.Omega.{arith}
 use borrow.Author.Tests.{eqb-true, eqb-false, ne-eqb, not-true}
 use lib.Dec.{eqb}
 use lib.IntN.{ℤ, pos, negℤ}
-use lib.ListN.{length, getD, List·getD-eq-default}
 use Rattle.exact.specs.Choice.{if_then_else_}
 use Rattle.exact.proofs.Tests.{and-left, and-right}
 use Rattle.text.specs.Text.{byteAt, keyAt}
@@ -22,6 +21,7 @@ use Rattle.text.specs.declared.Number.{Number}
 use Rattle.text.specs.declared.Number.the-variants.{Got, Bad}
 use Rattle.text.specs.declared.Next.{Next}
 use Rattle.text.specs.declared.Next.the-variants.{At, Wrong}
+use Rattle.lines.proofs.Table.{table-all}
 
 -- the end of a line, or of the text
 abbrev pub closing : ℕ → Bool
@@ -53,6 +53,15 @@ never-at e = let z : _≡_ {A = ℕ} 0 1 = cc in omega arith
 pub went : (x : Next) (f : ℕ → Next) (k : ℕ) → andThen x f ≡ At k → (i : ℕ) × (x ≡ At i)
 went (At i) f k e = (i, refl)
 went Wrong f k e = absurd (never-at e)
+
+-- two readings at one place
+pub unmoved : {m : ℕ} {x y : Next} → Moved 0 0 m x y → x ≡ y
+unmoved (both j l) = refl
+unmoved neither = refl
+
+pub unmoved-within : {m : ℕ} {x y : Next} (k : ℕ) → Moved 0 0 m x y → x ≡ At k → k ≤ m
+unmoved-within k (both j l) e = let same : 0 + j ≡ k = cc in omega arith
+unmoved-within k neither e = absurd (never-at e)
 
 -- two choices by one test
 pub choose : {A : Type 0} (R : A → A → Type 0) (x : Bool) {a b c d : A} → (x ≡ true → R a b) → (x ≡ false → R c d) → R (if x then a else c) (if x then b else d)
@@ -88,16 +97,6 @@ not-closing b h k = rw (ne-eqb b 256 h, ne-eqb b 10 k)
 digit-open : (b : ℕ) → (digitOf b ≡ 10 → ⊥) → closing b ≡ false
 digit-open b h = not-closing b (λ e. h (ap digitOf e)) (λ e. h (ap digitOf e))
 
--- a test of each key of a table
-abbrev pub allOf : (List ℕ → Bool) → List (List ℕ) → Bool
-allOf test [] = true
-allOf test (key ∷ rest) = test key && allOf test rest
-
-pub table-at : (test : List ℕ → Bool) (table : List (List ℕ)) (k : ℕ) → k < length table → allOf test table ≡ true → test (getD table k []) ≡ true
-table-at test [] k h e = absurd (not-suc-le-zero h)
-table-at test (key ∷ rest) zero h e = and-left (test key) (allOf test rest) e
-table-at test (key ∷ rest) (suc k) h e = table-at test rest k (le-of-suc-le-suc h) (and-right (test key) (allOf test rest) e)
-
 -- no key ends a line
 abbrev pub printed : List ℕ → Bool
 printed [] = true
@@ -107,11 +106,7 @@ printed-first : (k : ℕ) (ks : List ℕ) → printed (k ∷ ks) ≡ true → cl
 printed-first k ks e = not-true (closing k) (and-left (not (closing k)) (printed ks) e)
 
 pub key-printed : (k : ℕ) → printed (keyOf k) ≡ true
-key-printed k = go (decLt k (length keys))
-  where
-    go : Dec (k < length keys) → printed (keyOf k) ≡ true
-    go (yes h) = table-at printed keys k h refl
-    go (no h) = ap printed (List·getD-eq-default keys [] {n = k} (omega arith))
+key-printed k = table-all printed keys k refl refl
 
 module _ {s t : List ℕ} {p q m : ℕ} (o : Along s t p q m) where
   -- a byte that ends no line stands before the m-th

@@ -1,7 +1,7 @@
--- The first empty line of a text: byte by byte as the code looks for it, what stands behind it, and that of a text in two parts.
+-- The first empty line of a text: byte by byte as the code looks for it, and what stands behind it.
 use mathlib.Core.Path.{_≡_, refl, sym, ap, _∙_}
 use mathlib.Core.Bool.{Bool, true, false}
-use mathlib.Core.List.{List, [], _∷_, _++_}
+use mathlib.Core.List.{List, [], _∷_}
 use Prim.Native.Nat.{ℕ, _+_, _≤_, _<_}
 use native.Mathlib.Numerals.{add-one}
 use native.Mathlib.Nat.{add-zero, add-assoc}
@@ -98,40 +98,3 @@ module _ (s : List ℕ) (at : ℕ) where
 
   pub behind-none : emptyIn true (drop at s) at ≡ Wrong → behind (drop at s) ≡ []
   behind-none e = behind-is s at ∙ ap (λ (x : Next). behindPlace x s) e
-
--- ---- a text in two parts
--- whether a line begins behind the bytes t: where there are none, `start` says it, and else the last of them
-abbrev pub begins : (start : Bool) → List ℕ → Bool
-begins start [] = start
-begins start (b ∷ t) = begins (eqb b 10) t
-
-pub begins-behind : (start : Bool) (t : List ℕ) (b : ℕ) → begins start (t ++ (b ∷ [])) ≡ eqb b 10
-begins-behind start [] b = refl
-begins-behind start (c ∷ t) b = begins-behind (eqb c 10) t b
-
-abbrev orElse : Next → Next → Next
-orElse (At j) other = At j
-orElse Wrong other = other
-
-empty-either : (start : Bool) (t u : List ℕ) (i : ℕ) → emptyIn start (t ++ u) i ≡ orElse (emptyIn start t i) (emptyIn (begins start t) u (i + length t))
-unfolding emptyIn
-empty-either start [] u i = rw add-zero
-empty-either start (b ∷ t) u i =
-    let e : i + length (b ∷ t) ≡ i + 1 + length t = omega arith in
-    rw e (go (eqb b 10) start (λ x. empty-either x t u (i + 1)))
-  where
-    go : (feed start : Bool) → ((x : Bool) → emptyIn x (t ++ u) (i + 1) ≡ orElse (emptyIn x t (i + 1)) (emptyIn (begins x t) u (i + 1 + length t)))
-        → (if feed then (if start then At (i + 1) else emptyIn true (t ++ u) (i + 1)) else emptyIn false (t ++ u) (i + 1))
-        ≡ orElse (if feed then (if start then At (i + 1) else emptyIn true t (i + 1)) else emptyIn false t (i + 1)) (emptyIn (begins feed t) u (i + 1 + length t))
-    go true true f = refl
-    go true false f = f true
-    go false start f = f false
-
-module _ (start : Bool) (t u : List ℕ) (i : ℕ) where
-  -- an empty line of the first part is the first of the whole
-  pub append-found : (j : ℕ) → emptyIn start t i ≡ At j → emptyIn start (t ++ u) i ≡ At j
-  append-found j e = empty-either start t u i ∙ ap (λ (x : Next). orElse x (emptyIn (begins start t) u (i + length t))) e
-
-  -- and where it has none, the second part is looked through, in the line that the first leaves
-  pub append-none : emptyIn start t i ≡ Wrong → emptyIn start (t ++ u) i ≡ emptyIn (begins start t) u (i + length t)
-  append-none e = empty-either start t u i ∙ ap (λ (x : Next). orElse x (emptyIn (begins start t) u (i + length t))) e

@@ -1,5 +1,5 @@
 -- Two texts with the same bytes, each from a place of its own on, up to the end of a block: its lines are read as the same.
-use mathlib.Core.Path.{_≡_, sym, ap, _∙_}
+use mathlib.Core.Path.{_≡_, refl, sym, ap, _∙_}
 use mathlib.Core.Bool.{Bool, true, false, not, false≢true}
 use mathlib.Core.List.{List, [], _∷_, _++_}
 use Prim.Native.Nat.{ℕ, zero, suc, _+_, _≤_, _<_}
@@ -18,21 +18,26 @@ use Rattle.text.specs.declared.Number.the-variants.{Bad}
 use Rattle.text.specs.declared.Next.{Next}
 use Rattle.text.specs.declared.Next.the-variants.{At, Wrong}
 use Rattle.lines.specs.Keys.{keyOf}
-use Rattle.lines.specs.Line.{fieldAt, andThen, afterFields, valueIn, lineFeed, lineAt, closes}
+use Rattle.lines.specs.Line.{placeIn, fieldAt, andThen, afterFields, valueIn, lineFeed, lineAt, closes}
 use Rattle.lines.proofs.Along.{closing, Along, Moved, both, neither, choose, never-at, moved-then, fields-along, values-along}
 
--- a line that is read ends in a line feed
+-- a line feed that is found
+pub feed-ends : (s : List ℕ) (x k : ℕ) → lineFeed s x ≡ At k → (byteAt s x ≡ 10) × (x + 1 ≡ k)
+unfolding keyAt
+feed-ends s x k =
+    by-test (eqb (byteAt s x) 10) (λ b. (if b then At (x + 1) else Wrong) ≡ At k → (byteAt s x ≡ 10) × (x + 1 ≡ k))
+    (λ h e. (eqb-true (byteAt s x) 10 h, cc))
+    (λ h e. absurd (never-at e))
+
+-- a line that is read ends in one
 pub record Fed (s : List ℕ) (k : ℕ) : Type 0 where
   pub at : ℕ
   pub next : at + 1 ≡ k
   pub feed : byteAt s at ≡ 10
 
 pub fed : (s : List ℕ) (k : ℕ) (a : Next) → andThen a (lineFeed s) ≡ At k → Fed s k
-unfolding keyAt
-fed s k (At i) = by-test (eqb (byteAt s i) 10) (λ b. (if b then At (i + 1) else Wrong) ≡ At k → Fed s k)
-    (λ h e. record { at = i; next = cc; feed = eqb-true (byteAt s i) 10 h })
-    (λ h e. absurd (never-at e))
-fed s k Wrong = λ e. absurd (never-at e)
+fed s k (At i) e = let end = feed-ends s i k e in record { at = i; next = end .1; feed = end .0 }
+fed s k Wrong e = absurd (never-at e)
 
 pub line-fed : (first n : ℕ) (s : List ℕ) (at k : ℕ) → lineAt first n s at ≡ At k → Fed s k
 unfolding lineAt
@@ -44,6 +49,14 @@ fed-inside s k f = go (decLt (f .at) (length s))
     go : Dec (f .at < length s) → k ≤ length s
     go (yes h) = omega (arith, f .next)
     go (no h) = absurd (let z : 256 ≡ 10 = sym (List·getD-eq-default s 256 (omega arith)) ∙ f .feed in omega arith)
+
+-- the place behind a line feed lies in the text
+pub feed-inside : (s : List ℕ) (x : Next) → placeIn (andThen x (lineFeed s)) ≤ length s
+feed-inside s x = go (andThen x (lineFeed s)) refl
+  where
+    go : (y : Next) → andThen x (lineFeed s) ≡ y → placeIn y ≤ length s
+    go (At k) e = fed-inside s k (fed s k x e)
+    go Wrong e = omega arith
 
 -- ---- a place where a line ends: no key stands there
 abbrev pub opens : List ℕ → Bool
@@ -91,6 +104,9 @@ pub record Ended (s t : List ℕ) (p q m : ℕ) : Type 0 where
   pub along : Along s t p q m
   pub one : closing (byteAt s (p + (m + 1))) ≡ true
   pub other : closing (byteAt t (q + (m + 1))) ≡ true
+
+pub both-end : {s t : List ℕ} {p q m : ℕ} → Along s t p q m → Along s t p q (m + 1) → Ended s t p q m
+both-end {m = m} line empty = record { along = line; one = empty .stop; other = ap closing (sym (empty .same (m + 1) (omega arith))) ∙ empty .stop }
 
 module _ {s t : List ℕ} {p q m : ℕ} (o : Ended s t p q m) where
   pub last-or : (P : ℕ → Type 0) (i : ℕ) → i ≤ m + 1 → ((j : ℕ) → j ≤ m → P j) → P (m + 1) → P i

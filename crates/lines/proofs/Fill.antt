@@ -11,19 +11,18 @@ use lib.ListN.{getD, set, List·getD-append}
 use lib.Seq.{append-snoc, set-at}
 use mir.Syntax.{w64}
 use mir.Val.{Val}
-use mir.Facts.{toZ-ofZ}
 use denote.Array.{each}
 use denote.Shadow.{shadow}
 use denote.Signed.{SInt}
 use Rattle.exact.specs.Whole.{upTo}
 use Rattle.exact.proofs.Sums.{up-length, up-at, up-same}
-use Rattle.exact.proofs.Bits.{held}
+use Rattle.exact.proofs.Bits.{held, handed}
 use Rattle.lines.specs.Line.{filled}
 
 -- ---- an array of `i64`
 
 pub held-is : (z w : ℤ) → mag z < 2 ^ 63 → z ≡ w → held z ≡ w
-held-is z w f e = toZ-ofZ {w = w64} {z = z} (record { sfits = f }) ∙ e
+held-is z w f e = handed z f ∙ e
 
 each-small : (xs : List ℤ) (us : List Val) (i : ℕ) → shadow (each ℤ (SInt w64 .own) xs us) → mag (getD xs i (pos 0)) < 2 ^ 63
 each-small [] us i s = omega arith

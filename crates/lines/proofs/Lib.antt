@@ -1,5 +1,6 @@
 -- Laws that the proofs of the crate's functions cite, and those by which texts of lines are compared and printed.
 pub mod Fill
+pub mod Table
 pub mod Lines
 pub mod Whole
 pub mod Rows
@@ -9,7 +10,9 @@ pub mod Along
 pub mod Ended
 pub mod RowsEnded
 pub mod Cut
+pub mod Passed
 pub mod Pieces
+pub mod BlockEnds
 pub mod Holds
 pub mod Prints
 pub mod Unique

@@ -2,8 +2,9 @@
 use mathlib.Core.Path.{_≡_, refl, sym, ap, _∙_}
 use mathlib.Core.Bool.{Bool, true, false, false≢true}
 use mathlib.Core.List.{List, [], _∷_}
-use Prim.Native.Nat.{ℕ, _+_, _-_, _≤_, _<_}
+use Prim.Native.Nat.{ℕ, zero, suc, _+_, _-_, _≤_, _<_}
 use native.Mathlib.Numerals.{add-one}
+use native.Mathlib.Nat.{zero-add}
 use native.Mathlib.Omega.{arith}
 use borrow.Author.Tests.{eqb-true}
 use lib.Dec.{eqb}
@@ -15,9 +16,8 @@ use Rattle.text.specs.declared.Next.{Next}
 use Rattle.text.specs.declared.Next.the-variants.{At, Wrong}
 use Rattle.text.specs.Text.{byteAt}
 use Rattle.lines.specs.Cut.{emptyIn, behind}
-use Rattle.lines.specs.Pieces.{orEnd, pieceAfter, upToPlace, firstPiece, isSome}
-use Rattle.lines.proofs.Along.{closing, never-at}
-use Rattle.lines.proofs.Ended.{Ended}
+use Rattle.lines.specs.Pieces.{restAfter, orEnd, pieceAfter, upToPlace, firstPiece, isSome}
+use Rattle.lines.proofs.Along.{closing, Along, never-at}
 use Rattle.lines.proofs.Cut.{behind-at, behind-none, behind-range}
 
 -- ---- the place behind a piece that begins at a place, as the code looks for it, and whether bytes stand there
@@ -43,6 +43,13 @@ module _ (s : List ℕ) (at : ℕ) where
   -- a text that is lent from a place to its end
   pub lent-to-the-end : take (length s - at) (drop at s) ≡ drop at s
   lent-to-the-end = take-all (length s - at) (drop at s) (omega (arith, length-drop at s))
+
+-- ---- the pieces behind the first are those of the text from the second on
+
+pub rest-behind : (k : ℕ) (s : List ℕ) → restAfter k (behind s) ≡ restAfter (suc k) s
+unfolding restAfter
+rest-behind zero s = refl
+rest-behind (suc k) s = ap behind (rest-behind k s)
 
 -- ---- where the first empty line of the bytes t ends: behind its line feed, which is the first byte or stands behind another
 
@@ -71,12 +78,12 @@ empty-found start (b ∷ t) i j =
     feed true h f e = at-once refl h (cc)
     feed false h f e = begun false b t i j h (f e)
 
--- ---- a text and its first piece are the same, begin with an empty line both, or are the same up to the empty line
+-- ---- a text and its first piece are the same, begin with an empty line both, or are the same up to a line's end and the empty line behind it
 
 pub data Shares (s t : List ℕ) : Type 0 where
   whole : s ≡ t → Shares s t
   empty : byteAt s 0 ≡ 10 → byteAt t 0 ≡ 10 → Shares s t
-  lines : (m : ℕ) → Ended s t 0 0 m → Shares s t
+  lines : (m : ℕ) → Along s t 0 0 m → Along s t 0 0 (m + 1) → Shares s t
 
 module _ (s : List ℕ) where
   piece-byte : (j i : ℕ) → i < j → byteAt (take j s) i ≡ byteAt s i
@@ -84,17 +91,10 @@ module _ (s : List ℕ) where
 
   piece-ends : (j : ℕ) → EmptyAt true s 0 j → Shares s (take j s)
   piece-ends j (at-once e f h) = empty f (piece-byte j 0 (omega arith) ∙ f)
-  piece-ends j (behind-line m f g h) = lines m (record {
-    along = record {
-      same = λ i l. sym (piece-byte j (0 + i) (omega arith));
-      stop = ap closing (zero m f);
-    };
-    one = ap closing (zero (m + 1) g);
-    other = ap closing (piece-byte j (0 + (m + 1)) (omega arith) ∙ zero (m + 1) g);
-  })
+  piece-ends j (behind-line m f g h) = lines m (along m f (omega arith)) (along (m + 1) g (omega arith))
     where
-      zero : (i : ℕ) → byteAt s i ≡ 10 → byteAt s (0 + i) ≡ 10
-      zero i e = let same : 0 + i ≡ i = omega arith in rw same e
+      along : (n : ℕ) → byteAt s n ≡ 10 → n < j → Along s (take j s) 0 0 n
+      along n e u = record { same = λ i l. sym (piece-byte j (0 + i) (omega arith)); stop = rw zero-add (ap closing e) }
 
   pub piece-shares : Shares s (firstPiece s)
   unfolding firstPiece

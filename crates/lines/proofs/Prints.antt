@@ -16,7 +16,7 @@ use Rattle.lines.specs.Line.{fieldAt, afterFields, valueIn, lineAt}
 use Rattle.lines.specs.Print.{fields, line}
 use Rattle.text.specs.declared.Number.the-variants.{Got}
 use Rattle.text.specs.declared.Next.the-variants.{At}
-use Rattle.lines.proofs.Along.{table-at}
+use Rattle.lines.proofs.Table.{table-at}
 use Rattle.lines.proofs.Holds.{Holds, holds-split, after-both, holds-key, Says}
 
 -- ---- no key begins with a digit

@@ -82,7 +82,7 @@ isLine first count = leb (first + count) (length keys) && leb count 20
 abbrev pub noFields : Fields
 noFields = record { next = Wrong; values = replicate 20 (pos 0) }
 
--- what the one loop over a line's keys reads: the place after its fields, and their values. From a field that is wrong on they are 0
+-- what the one loop over a line's keys reads: the place after its fields, and their values. From the first wrong field on they are 0
 abbrev pub fieldsAt : (first count : ℕ) → List ℕ → ℕ → Fields
 fieldsAt first count s at =
     if isLine first count

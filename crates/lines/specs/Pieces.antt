@@ -1,4 +1,4 @@
--- A text in pieces, cut at its empty lines: the first bytes of each decide it, and an absent one is empty.
+-- A text in pieces, cut at its empty lines: what stands behind k of them, and piece k, which is empty where it is absent.
 use mathlib.Core.Bool.{Bool, true, false}
 use mathlib.Core.List.{List, [], _∷_}
 use Prim.Native.Nat.{ℕ, zero, suc}

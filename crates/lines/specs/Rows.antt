@@ -34,12 +34,12 @@ abbrev pub rowAfterLine : Next → (line : ℕ) → (ℕ → Rows) → Rows
 rowAfterLine (At next) line rest = rest next
 rowAfterLine Wrong line rest = brokenRow line
 
--- up to `left` rows more after i of them; the first of all is line `before` of the block. A row too many is not as printed, whatever
+-- up to `left` rows more after i of them; the first of all is line `firstLine` of the block. A row too many is not as printed, whatever
 -- it holds
-unfoldable pub rowsAt : (first fields before left : ℕ) → List ℕ → (at i : ℕ) → Rows
-rowsAt first fields before zero s at i = if closes s at then counted i else brokenRow (i + before)
-rowsAt first fields before (suc left) s at i =
-    let rest = rowAfterLine (lineAt first fields s at) (i + before) (λ next. rowsAt first fields before left s next (i + 1)) in
+unfoldable pub rowsAt : (first fields firstLine left : ℕ) → List ℕ → (at i : ℕ) → Rows
+rowsAt first fields firstLine zero s at i = if closes s at then counted i else brokenRow (i + firstLine)
+rowsAt first fields firstLine (suc left) s at i =
+    let rest = rowAfterLine (lineAt first fields s at) (i + firstLine) (λ next. rowsAt first fields firstLine left s next (i + 1)) in
     if closes s at then counted i else rest
 
 -- ---- what the code has read: `broken` is the first line that is not as printed, or 0, and then there are n rows
@@ -48,6 +48,6 @@ abbrev pub rowsTold : (broken n : ℕ) → Rows
 rowsTold broken n = if eqb broken 0 then counted n else brokenRow broken
 
 -- up to `most` rows, in an array of that many places
-pub record RowsFound {A : Type 0} (first fields before most : ℕ) (make : (ℕ → ℤ) → A) (blank : A) (s : List ℕ) (at broken n : ℕ) (array : List A) : Type 0 where
-  pub told : rowsTold broken n ≡ rowsAt first fields before most s at 0
+pub record RowsFound {A : Type 0} (first fields firstLine most : ℕ) (make : (ℕ → ℤ) → A) (blank : A) (s : List ℕ) (at broken n : ℕ) (array : List A) : Type 0 where
+  pub told : rowsTold broken n ≡ rowsAt first fields firstLine most s at 0
   pub rows : broken ≡ 0 → array ≡ filled n most (rowIn first fields make blank s at) blank

@@ -1,4 +1,4 @@
-// The table of keys in three parts: a new key is one more line here.
+// The table of keys in three parts, by the numbers of specs/Keys.antt.
 ghost use mathlib.Core.Path.{_≡_};
 ghost use Prim.Native.Nat.{_<_, _≤_};
 ghost use Rattle.text.specs.Text.{keyAt};

@@ -1,19 +1,19 @@
 -- A row of marks and its word: each says what the other is.
 use mathlib.Core.Path.{_≡_, refl, sym, _∙_, ap, subst}
 use mathlib.Core.Bool.{Bool, true, false}
-use Prim.Native.Nat.{ℕ, zero, suc, _+_, _-_, _*_, _/_, _%_, _^_, _<_, _≤_}
-use native.Mathlib.Nat.{mod-one, mod-lt, pow-suc, lt-of-lt-of-le, one-mul}
+use Prim.Native.Nat.{ℕ, zero, suc, _+_, _-_, _*_, _/_, _%_, _^_, _<_}
+use native.Mathlib.Nat.{mod-one, mod-lt, pow-suc, one-mul}
 use native.Mathlib.Numerals.{add-one, one-add}
 use native.Mathlib.Decide.{decLt}
 use native.Mathlib.Omega.{arith}
 use lib.Dec.{eqb}
 use lib.Bits.{bitAnd, bitOr, and-mask, or-shifted-r}
-use lib.Pow.{pow-mono, shl-exact, mod-pow-add, high, low}
+use lib.Pow.{shl-exact, mod-pow-add, high, low}
 use Rattle.exact.specs.Choice.{if_then_else_}
 use Rattle.exact.proofs.Parts.{by-test}
 use Rattle.tariff.specs.Eligible.{marked}
 use Rattle.marks.specs.Word.{word}
-use Rattle.marks.proofs.Marked.{marked-cut, marked-past}
+use Rattle.marks.proofs.Marked.{marked-cut}
 
 -- ---- one hour more
 
@@ -70,9 +70,6 @@ module _ (f : ℕ → Bool) where
       go : Dec (h < n) → (h < n → marked (word n f) h ≡ f h) → marked (word (suc n) f) h ≡ f h
       go (yes v) before = word-before n h v ∙ before v
       go (no v) before = let same : n ≡ h = omega arith in subst (λ (k : ℕ). marked (word (suc n) f) k ≡ f k) same (word-last n)
-
-  pub unmarked-past : (n h : ℕ) → n ≤ h → marked (word n f) h ≡ false
-  unmarked-past n h u = marked-past (word n f) h (lt-of-lt-of-le (word-small n) (pow-mono u))
 
 -- ---- the word of a word's marks
 

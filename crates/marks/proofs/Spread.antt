@@ -1,6 +1,6 @@
 -- The word joined with its shifts by one and by two both ways, masked to the day, marks the hours near a marked hour of the day.
 use mathlib.Core.Path.{_≡_, sym, _∙_, ap}
-use mathlib.Core.Bool.{true, false, _&&_, false≢true}
+use mathlib.Core.Bool.{true, _&&_, false≢true}
 use Prim.Native.Nat.{ℕ, _+_, _-_, _*_, _/_, _%_, _^_, _<_, _≤_}
 use native.Mathlib.Decide.{decLt, decLe}
 use native.Mathlib.Omega.{arith}

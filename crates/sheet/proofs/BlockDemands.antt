@@ -8,21 +8,21 @@ use lib.IntN.{ℤ}
 use lib.ListN.{length, take}
 use Rattle.tariff.specs.declared.Hour.{Hour}
 use Rattle.tariff.specs.declared.Expected.{Expected}
-use Rattle.tariff.specs.Reply.{clear, paid, refused}
+use Rattle.tariff.specs.Reply.{clear, paid, refused, FORM, DERATE, REACH}
 use Rattle.tariff.specs.Hour.{form, range}
-use Rattle.tariff.specs.Demand.{MustPrice, priceIn, FirstUnpriced, Alike, NoFaultTo4, NoFaultTo5, Extends}
+use Rattle.tariff.specs.Demand.{MustPrice, priceIn, FirstUnpriced, FirstExceeded, Alike, NoFaultTo4, NoFaultTo5, Extends}
 use Rattle.sheet.specs.Block.{blockOf, broken, read, replyTo, rowTo}
 use Rattle.sheet.specs.Apart.{CurvesApart}
 use Rattle.sheet.specs.Closed.{Closed}
 use Rattle.sheet.specs.Print.{textOf, Plain}
 use Rattle.sheet.proofs.Apart.{apart-alike, apart-broken}
-use Rattle.sheet.proofs.BlockReplies.{blocks-needed, block-reach, blocks-extended}
+use Rattle.sheet.proofs.BlockReplies.{blocks-needed, block-reach, block-derate, blocks-extended}
 use Rattle.sheet.proofs.Local.{decided}
 use Rattle.sheet.proofs.Closing.{closed-or-ended, not-read}
 use Rattle.sheet.proofs.ReadsBack.{text-read, read-again}
 use Rattle.sheet.proofs.Forms.{form-exactly}
 
--- ---- texts that differ in their curve lines only
+-- ---- texts whose first three lines are as printed, and that differ in lines 2 and 3 only
 
 -- Their hours are alike in all but their curves.
 pub curves-apart-are-alike : (s t : List ℕ) → CurvesApart s t → (h g : Hour) → blockOf s ≡ read h → blockOf t ≡ read g → Alike h g
@@ -47,17 +47,24 @@ pub only-needed-prices-of-blocks-matter :
     → (replyTo (blockOf s) isExcluded expected (length row) ≡ replyTo (blockOf t) isExcluded expected (length row)) × (rowTo (blockOf s) isExcluded expected row ≡ rowTo (blockOf t) isExcluded expected row)
 only-needed-prices-of-blocks-matter = blocks-needed
 
--- REACH is given exactly when a kilowatt that must be priced has no price: at the first interval that has one, and where no
--- DERATE stands at or before it.
+-- REACH is given exactly when no check from 1 to 5 refuses and a kilowatt that must be priced has no price: at the first interval that
+-- has one, and where no DERATE stands at or before it.
 pub block-reach-exactly-when-unpriced :
     (s : List ℕ) (h : Hour) (isExcluded : Bool) (expected : Expected) (room i : ℕ)
     → blockOf s ≡ read h
-    → NoFaultTo5 h expected
-    → (replyTo (blockOf s) isExcluded expected room ≡ refused 7 (i + 1)) ↔ FirstUnpriced h isExcluded i
+    → (replyTo (blockOf s) isExcluded expected room ≡ refused REACH (i + 1)) ↔ (NoFaultTo5 h expected × FirstUnpriced h isExcluded i)
 block-reach-exactly-when-unpriced = block-reach
 
--- Adding curve to a paid block changes nothing: with every price that its curves had, and perhaps more, it pays the same and
--- leaves the same row.
+-- DERATE is given exactly when no check from 1 to 5 refuses and the reduction of an eligible interval exceeds the room for it: at the
+-- first such interval, and where no REACH stands before it.
+pub block-derate-exactly-when-exceeded :
+    (s : List ℕ) (h : Hour) (isExcluded : Bool) (expected : Expected) (room i : ℕ)
+    → blockOf s ≡ read h
+    → (replyTo (blockOf s) isExcluded expected room ≡ refused DERATE (i + 1)) ↔ (NoFaultTo5 h expected × FirstExceeded h isExcluded i)
+block-derate-exactly-when-exceeded = block-derate
+
+-- Adding curve to a paid block never moves a cent, where the longer curves break no rule of checks 1 to 4: with every price that its
+-- curves had, and perhaps more, it pays the same and leaves the same row.
 pub adding-curve-to-a-block-changes-nothing :
     (s t : List ℕ) (h g : Hour) (isExcluded : Bool) (expected : Expected) (row : List ℤ)
     → CurvesApart s t
@@ -84,7 +91,7 @@ the-end-closes = closed-or-ended
 -- FORM is given exactly when a line is not as printed, and its place is that line.
 pub form-exactly-when-broken :
     (s : List ℕ) (isExcluded : Bool) (expected : Expected) (room line : ℕ)
-    → (replyTo (blockOf s) isExcluded expected room ≡ refused 1 line) ↔ (blockOf s ≡ broken line)
+    → (replyTo (blockOf s) isExcluded expected room ≡ refused FORM line) ↔ (blockOf s ≡ broken line)
 form-exactly-when-broken = form-exactly
 
 -- ---- the text of a record

@@ -8,9 +8,9 @@ use lib.IntN.{ℤ}
 use lib.ListN.{length}
 use Rattle.tariff.specs.declared.Hour.{Hour}
 use Rattle.tariff.specs.declared.Expected.{Expected}
-use Rattle.tariff.specs.Reply.{paid, refused}
-use Rattle.tariff.specs.Demand.{MustPrice, priceIn, FirstUnpriced, NoFaultTo4, NoFaultTo5, Extends}
-use Rattle.tariff.proofs.Demands.{only-needed-prices-matter, reach-exactly-when-unpriced, adding-curve-changes-nothing}
+use Rattle.tariff.specs.Reply.{paid, refused, DERATE, REACH}
+use Rattle.tariff.specs.Demand.{MustPrice, priceIn, FirstUnpriced, FirstExceeded, NoFaultTo4, NoFaultTo5, Extends}
+use Rattle.tariff.proofs.Demands.{only-needed-prices-matter, reach-exactly-when-unpriced, derate-exactly-when-exceeded, adding-curve-changes-nothing}
 use Rattle.sheet.specs.Block.{blockOf, read, replyTo, rowTo}
 use Rattle.sheet.specs.Apart.{CurvesApart}
 use Rattle.sheet.proofs.Apart.{apart-alike}
@@ -33,8 +33,11 @@ module _ (s t : List ℕ) (h g : Hour) (isExcluded : Bool) (expected : Expected)
   blocks-extended sum cents b d r e =
       rw (x, y) (adding-curve-changes-nothing h g isExcluded expected row sum cents (apart-alike s t o h g x y) b d r (rw x at e))
 
-pub block-reach : (s : List ℕ) (h : Hour) (isExcluded : Bool) (expected : Expected) (room i : ℕ)
-    → blockOf s ≡ read h
-    → NoFaultTo5 h expected
-    → (replyTo (blockOf s) isExcluded expected room ≡ refused 7 (i + 1)) ↔ FirstUnpriced h isExcluded i
-block-reach s h isExcluded expected room i x c = rw x (reach-exactly-when-unpriced h isExcluded expected room i c)
+-- ---- REACH and DERATE
+
+module _ (s : List ℕ) (h : Hour) (isExcluded : Bool) (expected : Expected) (room i : ℕ) (x : blockOf s ≡ read h) where
+  pub block-reach : (replyTo (blockOf s) isExcluded expected room ≡ refused REACH (i + 1)) ↔ (NoFaultTo5 h expected × FirstUnpriced h isExcluded i)
+  block-reach = rw x (reach-exactly-when-unpriced h isExcluded expected room i)
+
+  pub block-derate : (replyTo (blockOf s) isExcluded expected room ≡ refused DERATE (i + 1)) ↔ (NoFaultTo5 h expected × FirstExceeded h isExcluded i)
+  block-derate = rw x (derate-exactly-when-exceeded h isExcluded expected room i)

@@ -8,7 +8,7 @@ use lib.IntN.{ℤ}
 use Rattle.tariff.specs.declared.Curve.{Curve}
 use Rattle.tariff.specs.declared.DayAhead.{DayAhead}
 use Rattle.text.specs.declared.Next.the-variants.{At, Wrong}
-use Rattle.sheet.specs.declared.block.RowsRead.{RowsRead}
+use Rattle.sheet.specs.declared.rows.RowsRead.{RowsRead}
 use Rattle.sheet.specs.declared.block.BlockRead.{BlockRead}
 use Rattle.lines.specs.Line.{valueIn, lineAt}
 use Rattle.sheet.specs.Block.{aheadOf, curveLine, curveOf, RowsReadAt, broken, read, blockAt, blockOf, blockTold}

@@ -4,17 +4,18 @@ use mathlib.Core.List.{List, [], _∷_, _++_, append-assoc}
 use Prim.Native.Nat.{ℕ, _+_}
 use native.Mathlib.Omega.{arith}
 use lib.IntN.{ℤ}
-use lib.Seq.{append-snoc}
 use Rattle.tariff.specs.Hour.{blank}
 use Rattle.tariff.specs.declared.Curve.{Curve}
-use Rattle.text.specs.Text.{keyAt}
-use Rattle.lines.specs.Line.{fieldAt, afterFields, lineAt, valueIn}
+use Rattle.text.specs.Text.{byteAt}
+use Rattle.lines.specs.Line.{valueIn}
 use Rattle.lines.specs.Rows.{Rows, counted, brokenRow, rowsAt}
 use Rattle.sheet.specs.Block.{intervalOf, intervalAt, broken, withRows, afterLine1, afterLine2, afterLine3, blockAt, blockOf}
 use Rattle.sheet.specs.Closed.{Closed, atOnce, afterLine}
 use Rattle.text.specs.declared.Next.{Next}
-use Rattle.lines.proofs.Along.{Moved, both, neither}
-use Rattle.lines.proofs.Ended.{Ended, line-ended, values-ended, lines-ended}
+use Rattle.lines.specs.Pieces.{firstPiece}
+use Rattle.lines.proofs.Along.{closing, Moved, both, neither}
+use Rattle.lines.proofs.Ended.{Ended, line-closed, line-ended, values-ended}
+use Rattle.lines.proofs.BlockEnds as ends
 use Rattle.lines.proofs.RowsEnded.{each-ended, rows-ended}
 use Rattle.sheet.proofs.AlongBlock.{curve-line-ended, curve-ended}
 
@@ -44,14 +45,21 @@ module _ {s t : List ℕ} {m : ℕ} (o : Ended s t 0 0 m) where
   unfolding blockOf blockAt
   block-ended = after1-ended (line-ended o 0 9 refl 0 (omega arith))
 
+-- an empty line at once
+starts-empty : (s : List ℕ) → byteAt s 0 ≡ 10 → blockOf s ≡ broken 1
+unfolding blockOf blockAt
+starts-empty s e = rw (line-closed s 0 (ap closing e) 0 9 refl)
+
+-- a block is decided by the first piece of its text
+pub piece-decides : (s : List ℕ) → blockOf (firstPiece s) ≡ blockOf s
+piece-decides = ends.piece-decides blockOf (broken 1) starts-empty (λ s t m o. block-ended o)
+
 -- ---- the empty line, and the end of the text
-module _ (front behind : List ℕ) where
-  pub closed-or-ended : blockOf (front ++ (10 ∷ 10 ∷ behind)) ≡ blockOf (front ++ (10 ∷ []))
-  closed-or-ended = ap blockOf (sym (append-snoc front 10 (10 ∷ behind))) ∙ block-ended (lines-ended front behind)
+pub closed-or-ended : (front behind : List ℕ) → blockOf (front ++ (10 ∷ 10 ∷ behind)) ≡ blockOf (front ++ (10 ∷ []))
+closed-or-ended = ends.closed-or-ended blockOf (broken 1) starts-empty (λ s t m o. block-ended o)
 
 pub empty-at-once : (behind : List ℕ) → blockOf (10 ∷ behind) ≡ broken 1
-unfolding blockOf blockAt lineAt afterFields fieldAt keyAt
-empty-at-once behind = refl
+empty-at-once behind = starts-empty (10 ∷ behind) refl
 
 pub not-read : (s behind : List ℕ) → Closed s → blockOf (s ++ behind) ≡ blockOf s
 not-read s behind (atOnce more) = empty-at-once (more ++ behind) ∙ sym (empty-at-once more)

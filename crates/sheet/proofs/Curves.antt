@@ -2,13 +2,13 @@
 use mathlib.Core.Path.{_≡_, refl, sym, _∙_, ap}
 use mathlib.Core.Bool.{Bool, true, false}
 use mathlib.Core.List.{List}
-use Prim.Native.Nat.{ℕ, zero, suc, _+_, _<_, _≤_, _^_}
+use Prim.Native.Nat.{ℕ, zero, suc, _+_, _<_, _≤_}
 use native.Mathlib.Numerals.{add-one}
 use native.Mathlib.Decide.{decLe}
 use native.Mathlib.Omega.{arith}
 use lib.Dec.{T, lit<}
-use lib.IntN.{ℤ, pos, negsuc, natAbs}
-use lib.Signed.{ltZ, leZ, mag, nonNeg}
+use lib.IntN.{ℤ, pos, natAbs}
+use lib.Signed.{ltZ, leZ, nonNeg}
 use mir.Syntax.{w64}
 use mir.Val.{Fits, SFits}
 use mir.Facts.{toZ-ofZ}
@@ -20,6 +20,7 @@ use Rattle.exact.proofs.Order.{le-not-lt}
 use Rattle.tariff.specs.Units.{kw}
 use Rattle.tariff.specs.Sheet.{liesIn}
 use Rattle.tariff.proofs.Tests.{and-right}
+use Rattle.units.proofs.Signs.{natural, stays}
 use Rattle.text.specs.declared.Next.{Next}
 use Rattle.text.specs.declared.Next.the-variants.{At, Wrong}
 use Rattle.sheet.specs.declared.block.Pairs.{Pairs}
@@ -29,10 +30,6 @@ use Rattle.lines.proofs.Along.{never-at, went}
 use Rattle.sheet.specs.Block.{countOf, afterPairs, pairValue, endIn, priceIn, PairsRead, curveLine, curveOf, CurveReadAt}
 
 -- ---- the count
-
-natural : (n : ℤ) → mag n < 2 ^ 63 → ltZ n (pos 0) ≡ false → T (nonNeg n) × Fits w64 (natAbs n) × (natAbs n ≡ over n)
-natural (pos n) u t = (tt, record { fits = omega arith }, refl)
-natural (negsuc n) u t = absurd (let z : _≡_ {A = ℕ} 0 1 = cc in omega arith)
 
 module _ (n : ℤ) (f : SFits w64 n) where
   from-zero : (t : Bool) → ltZ (held n) (held (pos 0)) ≡ t → ltZ n (pos 0) ≡ t
@@ -49,7 +46,7 @@ module _ (n : ℤ) (f : SFits w64 n) where
     count-above g = rw (le-not-lt (pos 0) n, from-zero false e, le-not-lt n (pos 12), to-twelve true g)
 
     pub count-fits : T (nonNeg (held n)) × Fits w64 (natAbs (held n))
-    count-fits = rw (toZ-ofZ f) (let h = natural n (f .sfits) (from-zero false e) in (h .0, h .1))
+    count-fits = stays n (f .sfits) (from-zero false e)
 
     pub count-within : ltZ (held (pos 12)) (held n) ≡ false → natAbs (held n) ≡ countOf n
     count-within g =

@@ -16,13 +16,13 @@ use Rattle.tariff.specs.declared.Hour.{Hour}
 use Rattle.tariff.specs.declared.Expected.{Expected}
 use Rattle.tariff.specs.Units.{kw, price, movePrice, seconds}
 use Rattle.tariff.specs.Sheet.{liesIn}
-use Rattle.tariff.specs.Reply.{Reply, refused}
+use Rattle.tariff.specs.Reply.{Reply, refused, FORM}
 use Rattle.tariff.specs.Hour.{blank, reply, rowAfter}
 use Rattle.text.specs.declared.Next.{Next}
 use Rattle.text.specs.declared.Next.the-variants.{At, Wrong}
 use Rattle.sheet.specs.declared.block.Pairs.{Pairs}
 use Rattle.sheet.specs.declared.block.CurveRead.{CurveRead}
-use Rattle.sheet.specs.declared.block.RowsRead.{RowsRead}
+use Rattle.sheet.specs.declared.rows.RowsRead.{RowsRead}
 use Rattle.sheet.specs.declared.block.BlockRead.{BlockRead}
 use Rattle.lines.specs.Line.{missing, andThen, afterFields, valueIn, lineFeed, lineAt, filled}
 use Rattle.lines.specs.Rows.{rowIn, Rows, counted, brokenRow, rowsAt, RowsFound}
@@ -165,7 +165,7 @@ blockOf s = blockAt s 0
 
 -- FORM comes before every other check
 abbrev pub replyTo : Block → Bool → Expected → ℕ → Reply
-replyTo (broken line) isExcluded expected room = refused 1 line
+replyTo (broken line) isExcluded expected room = refused FORM line
 replyTo (read h) isExcluded expected room = reply h isExcluded expected room
 
 abbrev pub rowTo : Block → Bool → Expected → List ℤ → List ℤ

@@ -9,6 +9,7 @@ use tariff::Expected;
 
 mod block;
 mod reader;
+mod rows;
 
 // Settles the hour block that begins at the first byte, read up to its first empty line or its end. Any bytes are judged.
 pub fn settle_block(block: &[u8], excluded: bool, expected: Expected, row: &mut [i64]) -> Answer

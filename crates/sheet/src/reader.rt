@@ -24,7 +24,7 @@ pub fn hour<'a>(r: Reader<'a>) -> BlockRead
     block::read_block(r.block, r.place)
 }
 
-// The same of a plain slice and place: whoever calls this needs no walk.
+// The same for a caller that has a slice and a place, and holds no reader.
 pub fn hour_at(block: &[u8], place: usize) -> BlockRead
     ensures { λ h. ⌜ blockTold h ≡ blockAt (now (block .entry)) place ⌝ }
 {

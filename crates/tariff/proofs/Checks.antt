@@ -1,5 +1,5 @@
 -- Laws of checks in their order: the first fault stands.
-use mathlib.Core.Path.{_≡_, refl, _∙_, ap}
+use mathlib.Core.Path.{_≡_, refl, sym, _∙_, ap}
 use mathlib.Core.Bool.{Bool, true, false}
 use Prim.Native.Nat.{ℕ, zero, suc, _<_}
 use native.Mathlib.Decide.{decLt}
@@ -9,13 +9,16 @@ use Rattle.tariff.specs.Reply.{Reply, paid, refused, Verdict, clear, fau
 
 -- ---- two checks, one after the other
 
+pub never-clear : {number place : ℕ} → fault number place ≡ clear → ⊥
+never-clear e = let z : _≡_ {A = ℕ} 0 1 = cc in omega arith
+
 pub then-clear : (v w : Verdict) → (v then w) ≡ clear → (v ≡ clear) × (w ≡ clear)
 then-clear clear w e = (refl, e)
-then-clear (fault number place) w e = absurd (let z : _≡_ {A = ℕ} 0 1 = cc in omega arith)
+then-clear (fault number place) w e = absurd (never-clear e)
 
 pub unless-clear : (b : Bool) (number place : ℕ) → unless b number place ≡ clear → b ≡ true
 unless-clear true number place e = refl
-unless-clear false number place e = absurd (let z : _≡_ {A = ℕ} 0 1 = cc in omega arith)
+unless-clear false number place e = absurd (never-clear e)
 
 -- a fault that the last check cannot give stands among those before it
 pub then-fault : (v : Verdict) (b : Bool) (m p number place : ℕ) → (number ≡ m → ⊥) → (v then unless b m p) ≡ fault number place → v ≡ fault number place
@@ -85,3 +88,32 @@ fault-first check (suc n) number place f = go (fault-first check n number place)
         let same : f .at ≡ n = let b = f .below in omega arith in
         let c : firstOf check n ≡ clear = clear-first check n (λ j v. f .before j (omega arith)) in
         rw (c, ← same) (f .gives)
+
+-- ---- checks that do not give fault n
+
+abbrev pub Without : (n : ℕ) → Verdict → Type 0
+Without n clear = Unit {0}
+Without n (fault number place) = number ≡ n → ⊥
+
+module _ (n : ℕ) where
+  pub without-fault : (v : Verdict) (place : ℕ) → Without n v → v ≡ fault n place → ⊥
+  without-fault clear place h e = never-clear (sym e)
+  without-fault (fault number at) place h e = h (cc)
+
+  -- such a fault is the next check's
+  pub without-clear : (v w : Verdict) (place : ℕ) → Without n v → (v then w) ≡ fault n place → (v ≡ clear) × (w ≡ fault n place)
+  without-clear clear w place h e = (refl, e)
+  without-clear (fault number at) w place h e = absurd (h (cc))
+
+  pub without-unless : (b : Bool) (number place : ℕ) → (number ≡ n → ⊥) → Without n (unless b number place)
+  without-unless true number place h = tt
+  without-unless false number place h = h
+
+  pub without-then : (v w : Verdict) → Without n v → Without n w → Without n (v then w)
+  without-then clear w a b = b
+  without-then (fault number place) w a b = a
+
+  pub without-first : (check : ℕ → Verdict) (m : ℕ) → ((i : ℕ) → Without n (check i)) → Without n (firstOf check m)
+  unfolding firstOf
+  without-first check zero h = tt
+  without-first check (suc m) h = without-then (firstOf check m) (check m) (without-first check m h) (h m)

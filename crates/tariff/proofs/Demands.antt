@@ -1,8 +1,9 @@
--- The theorems of the definitions: demand 3, what an hour pays, the lent row, the one answer to a reply, the curve, the derate's shares.
+-- The theorems of the definitions: demand 3, when an hour is refused and what it pays, the lent row, the one answer to a reply, the curve, the
+-- derate's shares.
 use mathlib.Core.Path.{_≡_}
 use mathlib.Core.Bool.{Bool, true}
 use mathlib.Core.List.{List}
-use mathlib.Core.Logic.{_↔_}
+use mathlib.Core.Logic.{_↔_, _⊎_}
 use Prim.Native.Nat.{ℕ, _+_, _-_, _<_, _≤_}
 use lib.ListN.{length, getD}
 use lib.IntN.{ℤ, pos, negℤ}
@@ -18,17 +19,18 @@ use Rattle.tariff.specs.declared.Found.{Found}
 use Rattle.tariff.specs.Units.{centsOf}
 use Rattle.tariff.specs.Sheet.{endOf, priceOf, beginOf, curveKeeps}
 use Rattle.tariff.specs.Curve.{known, quote, change, integral}
-use Rattle.tariff.specs.Reply.{Reply, paid, refused, Verdict, told, shown, clear, fault}
+use Rattle.tariff.specs.Reply.{Reply, paid, refused, DERATE, REACH, ROOM, Verdict, told, shown, clear, fault}
 use Rattle.tariff.specs.Eligible.{lags}
-use Rattle.tariff.specs.Derate.{ofFive, reduction, potential, floorOf, remainder, share}
-use Rattle.tariff.specs.Hour.{interval, contribution, reply, rowAfter, form, range, order, blockFault}
-use Rattle.tariff.specs.Demand.{MustPrice, priceIn, FirstUnpriced, Alike, NoFaultTo4, NoFaultTo5, Extends}
-use Rattle.tariff.proofs.Payments.{lagging-nothing, excluded-nothing, paid-once}
+use Rattle.tariff.specs.Derate.{ofFive, redTot, potRed, floorOf, remainder, isBefore, share}
+use Rattle.tariff.specs.Hour.{interval, gives, outcomeAt, contribution, reply, rowAfter, form, range, order, curves, secondsSum, intervals}
+use Rattle.tariff.specs.Demand.{MustPrice, priceIn, FirstUnpriced, FirstExceeded, Alike, NoFaultTo4, NoFaultTo5, Passes, Extends}
+use Rattle.tariff.proofs.Payments.{lagging-nothing, excluded-nothing, excluded-pays, paid-when, paid-once}
 use Rattle.tariff.proofs.Curves.{integral-turned}
-use Rattle.tariff.proofs.Shares.{served-first, shares-sum, share-bound}
-use Rattle.tariff.proofs.Ordered.{form-first, range-second, order-third}
+use Rattle.tariff.proofs.Ranks.{before-when}
+use Rattle.tariff.proofs.Shares.{share-one, served-first, shares-sum, share-bound}
+use Rattle.tariff.proofs.Ordered.{form-first, range-second, order-third, curve-fourth, seconds-fifth, room-last}
 use Rattle.tariff.proofs.Replies.{needed-same, extended-same}
-use Rattle.tariff.proofs.Reach.{reach-when}
+use Rattle.tariff.proofs.ByInterval.{reach-when, derate-when}
 use Rattle.tariff.proofs.Steps.{more-steps, priced-iff, step-price}
 use Rattle.tariff.proofs.Rows.{row-paid, row-refused}
 use Rattle.tariff.proofs.Answers.{answer-one, finding-one}
@@ -46,16 +48,15 @@ pub only-needed-prices-matter :
     → (reply h isExcluded expected (length row) ≡ reply g isExcluded expected (length row)) × (rowAfter h isExcluded expected row ≡ rowAfter g isExcluded expected row)
 only-needed-prices-matter = needed-same
 
--- REACH is given exactly when a kilowatt that must be priced has no price: at the first interval that has one, and where no
--- DERATE stands at or before it.
+-- REACH is given exactly when no check from 1 to 5 refuses and a kilowatt that must be priced has no price: at the first interval that
+-- has one, and where no DERATE stands at or before it.
 pub reach-exactly-when-unpriced :
     (h : Hour) (isExcluded : Bool) (expected : Expected) (room i : ℕ)
-    → NoFaultTo5 h expected
-    → (reply h isExcluded expected room ≡ refused 7 (i + 1)) ↔ FirstUnpriced h isExcluded i
+    → (reply h isExcluded expected room ≡ refused REACH (i + 1)) ↔ (NoFaultTo5 h expected × FirstUnpriced h isExcluded i)
 reach-exactly-when-unpriced = reach-when
 
--- Adding curve to a paid hour changes nothing: with every price that its curves had, and perhaps more, it pays the same and
--- leaves the same row.
+-- Adding curve to a paid hour never moves a cent, where the longer curves break no rule of checks 1 to 4: with every price that its
+-- curves had, and perhaps more, it pays the same and leaves the same row.
 pub adding-curve-changes-nothing :
     (h g : Hour) (isExcluded : Bool) (expected : Expected) (row : List ℤ) (sum cents : ℤ)
     → Alike h g
@@ -77,13 +78,31 @@ more-steps-extend = more-steps
 
 -- ---- what an hour pays
 
--- An interval with `ae` at or below `lim` contributes 0 for all products: its loss offsets nothing.
-pub lagging-contributes-nothing : (h : Hour) (isExcluded : Bool) (i : ℕ) → lags (interval h i) ≡ true → contribution h isExcluded i ≡ pos 0
-lagging-contributes-nothing = lagging-nothing
+-- An interval with `ae` at or below `lim` contributes 0 for all products and skips checks 6 and 7: its loss offsets nothing, and no
+-- DERATE or REACH stands at it.
+pub lagging-asks-nothing : (h : Hour) (isExcluded : Bool) (i : ℕ) → lags (interval h i) ≡ true → outcomeAt h isExcluded i ≡ gives (pos 0)
+lagging-asks-nothing = lagging-nothing
 
 -- All contributions of an excluded hour are 0.
 pub excluded-contributes-nothing : (h : Hour) (i : ℕ) → contribution h true i ≡ pos 0
 excluded-contributes-nothing = excluded-nothing
+
+-- An excluded hour that none of the checks 1 to 5 and 8 refuses pays 0.
+pub excluded-pays-nothing :
+    (h : Hour) (expected : Expected) (room : ℕ)
+    → NoFaultTo5 h expected
+    → h .n ≤ room
+    → reply h true expected room ≡ paid (pos 0) (pos 0)
+excluded-pays-nothing = excluded-pays
+
+-- An hour is paid exactly when no check refuses it, and then with the sum of its contributions and that sum's cents.
+pub paid-exactly-when-nothing-refuses :
+    (h : Hour) (isExcluded : Bool) (expected : Expected) (room : ℕ) (sum cents : ℤ)
+    → (reply h isExcluded expected room ≡ paid sum cents)
+    ↔ (Passes h isExcluded expected room
+    × (sum ≡ sumTo (contribution h isExcluded) (h .n))
+    × (cents ≡ centsOf (sumTo (contribution h isExcluded) (h .n))))
+paid-exactly-when-nothing-refuses = paid-when
 
 -- S is the sum of contributions; its cents are rounded down, once.
 pub rounded-once :
@@ -94,27 +113,59 @@ rounded-once = paid-once
 
 -- ---- the checks, in their order over the whole block
 
--- FORM comes before every other check, RANGE before all but FORM, ORDER between RANGE and CURVE.
+-- Each check is the reply where none before it refuses, whatever a later one would find: FORM, RANGE, ORDER, CURVE, SECONDS.
 pub form-comes-first :
-    (h : Hour) (expected : Expected) (number place : ℕ)
+    (h : Hour) (isExcluded : Bool) (expected : Expected) (room number place : ℕ)
     → form h ≡ fault number place
-    → blockFault h expected ≡ fault number place
+    → reply h isExcluded expected room ≡ refused number place
 form-comes-first = form-first
 
 pub range-comes-second :
-    (h : Hour) (expected : Expected) (number place : ℕ)
+    (h : Hour) (isExcluded : Bool) (expected : Expected) (room number place : ℕ)
     → form h ≡ clear
     → range h ≡ fault number place
-    → blockFault h expected ≡ fault number place
+    → reply h isExcluded expected room ≡ refused number place
 range-comes-second = range-second
 
 pub order-comes-third :
-    (h : Hour) (expected : Expected) (number place : ℕ)
+    (h : Hour) (isExcluded : Bool) (expected : Expected) (room number place : ℕ)
     → form h ≡ clear
     → range h ≡ clear
     → order h expected ≡ fault number place
-    → blockFault h expected ≡ fault number place
+    → reply h isExcluded expected room ≡ refused number place
 order-comes-third = order-third
+
+pub curve-comes-fourth :
+    (h : Hour) (isExcluded : Bool) (expected : Expected) (room number place : ℕ)
+    → form h ≡ clear
+    → range h ≡ clear
+    → order h expected ≡ clear
+    → curves h ≡ fault number place
+    → reply h isExcluded expected room ≡ refused number place
+curve-comes-fourth = curve-fourth
+
+pub seconds-come-fifth :
+    (h : Hour) (isExcluded : Bool) (expected : Expected) (room number place : ℕ)
+    → NoFaultTo4 h expected
+    → secondsSum h ≡ fault number place
+    → reply h isExcluded expected room ≡ refused number place
+seconds-come-fifth = seconds-fifth
+
+-- DERATE is given exactly when no check from 1 to 5 refuses and the reduction of an eligible interval exceeds the room for it: at the
+-- first such interval, and where no REACH stands before it. REACH has the like, above.
+pub derate-exactly-when-exceeded :
+    (h : Hour) (isExcluded : Bool) (expected : Expected) (room i : ℕ)
+    → (reply h isExcluded expected room ≡ refused DERATE (i + 1)) ↔ (NoFaultTo5 h expected × FirstExceeded h isExcluded i)
+derate-exactly-when-exceeded = derate-when
+
+-- ROOM comes last: no other check refuses, and the lent row is shorter than the interval count.
+pub room-comes-last :
+    (h : Hour) (isExcluded : Bool) (expected : Expected) (room : ℕ)
+    → NoFaultTo5 h expected
+    → intervals h isExcluded ≡ clear
+    → room < h .n
+    → reply h isExcluded expected room ≡ refused ROOM 0
+room-comes-last = room-last
 
 -- ---- the lent row
 
@@ -172,24 +223,32 @@ downward-is-the-negative = integral-turned
 -- Shares are whole kW that sum to REDtot, where it does not exceed the room for it.
 pub shares-sum-to-the-reduction :
     (a : DayAhead) (v : Interval) (limit : ℤ)
-    → reduction a limit ≤ ofFive (potential a v)
-    → ofFive (share (potential a v) (reduction a limit)) ≡ reduction a limit
-shares-sum-to-the-reduction a v limit = shares-sum (potential a v) (reduction a limit)
+    → redTot a limit ≤ ofFive (potRed a v)
+    → ofFive (share (potRed a v) (redTot a limit)) ≡ redTot a limit
+shares-sum-to-the-reduction a v limit = shares-sum (potRed a v) (redTot a limit)
 
 -- None of them exceeds its POTRED.
 pub no-share-exceeds-its-potential :
     (a : DayAhead) (v : Interval) (limit : ℤ)
-    → reduction a limit ≤ ofFive (potential a v)
+    → redTot a limit ≤ ofFive (potRed a v)
     → (j : ℕ)
-    → share (potential a v) (reduction a limit) j ≤ potential a v j
-no-share-exceeds-its-potential a v limit = share-bound (potential a v) (reduction a limit)
+    → share (potRed a v) (redTot a limit) j ≤ potRed a v j
+no-share-exceeds-its-potential a v limit = share-bound (potRed a v) (redTot a limit)
 
--- Each is rounded down, and the left-over kW go one each to the largest remainders: with the larger remainder, i has one if j has.
+-- Each is rounded down, and the left-over kW go one each:
+pub at-most-one-each : (pot : ℕ → ℕ) (red j : ℕ) → (share pot red j ≡ floorOf pot red j) ⊎ (share pot red j ≡ floorOf pot red j + 1)
+at-most-one-each = share-one
+
+-- to the largest remainders, ties in the order energy, regulation, r1, r2, r3. If j has one, so has each i that comes before it:
 pub left-over-goes-to-the-largest :
     (pot : ℕ → ℕ) (red i j : ℕ)
     → i < 5
     → j < 5
-    → remainder pot red j < remainder pot red i
+    → isBefore (remainder pot red) i j ≡ true
     → share pot red j ≡ floorOf pot red j + 1
     → share pot red i ≡ floorOf pot red i + 1
 left-over-goes-to-the-largest = served-first
+
+-- by a larger remainder, or by the same and earlier in the order.
+pub before-exactly-when-larger-or-earlier : (rem : ℕ → ℕ) (i j : ℕ) → (isBefore rem i j ≡ true) ↔ ((rem j < rem i) ⊎ ((rem i ≡ rem j) × (i < j)))
+before-exactly-when-larger-or-earlier = before-when

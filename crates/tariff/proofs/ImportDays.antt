@@ -11,21 +11,7 @@ use Rattle.exact.specs.Whole.{sumTo}
 use Rattle.exact.proofs.Parts.{arithℤ}
 use Rattle.tariff.specs.Units.{centsOf}
 use Rattle.tariff.specs.Import.{Part, part, stopped, Parts, sum, stoppedIn, add, partsTo, paid, settled}
-
--- ---- what a block gives
-
-abbrev pub grainsIn : Part → ℤ
-grainsIn (part grains) = grains
-grainsIn (stopped number place) = pos 0
-
-abbrev pub IsPart : Part → Type 0
-IsPart p = (grains : ℤ) × (p ≡ part grains)
-
--- block `hour` is refused, and none before it
-pub record FirstRefused (parts : ℕ → Part) (n hour number place : ℕ) : Type 0 where
-  pub below : hour < n
-  pub before : (j : ℕ) → j < hour → IsPart (parts j)
-  pub refuses : parts hour ≡ stopped number place
+use Rattle.tariff.specs.ImportDemand.{grainsIn, IsPart, FirstRefused}
 
 -- blocks that give the same below k give the same up to k
 pub parts-same : (parts others : ℕ → Part) (k : ℕ) → ((j : ℕ) → j < k → parts j ≡ others j) → partsTo parts k ≡ partsTo others k
@@ -66,7 +52,7 @@ module _ (parts : ℕ → Part) where
 
   -- ---- a refusal stands, whatever follows it
 
-  pub stop-stays : (k n hour number place : ℕ) → partsTo parts k ≡ stoppedIn hour number place → partsTo parts (k + n) ≡ stoppedIn hour number place
+  stop-stays : (k n hour number place : ℕ) → partsTo parts k ≡ stoppedIn hour number place → partsTo parts (k + n) ≡ stoppedIn hour number place
   unfolding partsTo
   stop-stays k zero hour number place e = rw add-zero e
   stop-stays k (suc n) hour number place e = rw (add-suc k n, stop-stays k n hour number place e)

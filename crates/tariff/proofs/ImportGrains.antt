@@ -1,7 +1,7 @@
 -- Laws of an import's block: which intervals its sum reads, and how large its part of the day can be.
 use mathlib.Core.Path.{_≡_, refl, _∙_, ap}
 use mathlib.Core.Bool.{false}
-use Prim.Native.Nat.{ℕ, zero, suc}
+use Prim.Native.Nat.{ℕ}
 use native.Mathlib.Decide.{ℕ-discrete}
 use native.Mathlib.Omega.{arith}
 use lib.IntN.{ℤ, pos, _-ℤ_}
@@ -9,7 +9,7 @@ use lib.Signed.{_≤ℤ_}
 use Rattle.exact.specs.Whole.{maxℤ, eqZ, Within, sumTo}
 use Rattle.exact.proofs.Parts.{arithℤ, apart, less-parts, max-parts}
 use Rattle.exact.proofs.Range.{within-more, within-lit, within-zero, within-less, within-mul, within-max}
-use Rattle.exact.proofs.Sums.{sum-same, sum-within}
+use Rattle.exact.proofs.Sums.{sum-same, sum-zeros, sum-within}
 use Rattle.tariff.specs.declared.Curtailed.{Curtailed}
 use Rattle.tariff.specs.declared.ImportHour.{ImportHour}
 use Rattle.tariff.specs.Reply.{Verdict, clear, fault}
@@ -41,18 +41,13 @@ module _ (cts : ℤ) (h g : ImportHour) (i : ℕ) (den : h .den ≡ g .den) (dec
 
 -- ---- nothing counts on a CTS import
 
-sum-nothing : (f : ℕ → ℤ) (n : ℕ) → ((k : ℕ) → f k ≡ pos 0) → sumTo f n ≡ pos 0
-unfolding sumTo
-sum-nothing f zero h = refl
-sum-nothing f (suc n) h = rw (sum-nothing f n h, h n)
-
 cts-uncounted : (cts : ℤ) (h : ImportHour) (v : Curtailed) → eqZ cts (pos 0) ≡ false → counts cts h v ≡ false
 unfolding counts
 cts-uncounted cts h v e = rw e
 
 pub cts-nothing : (cts : ℤ) (h : ImportHour) → eqZ cts (pos 0) ≡ false → importSum cts h ≡ pos 0
 unfolding importSum
-cts-nothing cts h e = sum-nothing _ (h .n) (λ k. uncounted cts h (curtailed h k) (cts-uncounted cts h (curtailed h k) e))
+cts-nothing cts h e = sum-zeros _ (h .n) (λ k u. uncounted cts h (curtailed h k) (cts-uncounted cts h (curtailed h k) e))
 
 -- ---- how large a part can be
 

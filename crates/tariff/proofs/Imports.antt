@@ -1,8 +1,9 @@
--- The theorems of curtailed imports (25.6): what an interval that does not count changes, what refuses a day, what a day pays.
+-- Laws of curtailed imports (25.6): what an interval that does not count changes, what refuses a day, what a day pays. The theorems of
+-- an import's text cite them.
 use mathlib.Core.Path.{_≡_}
 use mathlib.Core.Bool.{Bool, false}
 use mathlib.Core.Logic.{_↔_}
-use Prim.Native.Nat.{ℕ, _+_, _<_}
+use Prim.Native.Nat.{ℕ, _<_}
 use lib.IntN.{ℤ, pos}
 use lib.Signed.{_≤ℤ_}
 use Rattle.exact.specs.Whole.{eqZ, Within, sumTo}
@@ -11,13 +12,14 @@ use Rattle.tariff.specs.declared.Worth.{Worth}
 use Rattle.tariff.specs.declared.ImportAnswer.{ImportAnswer}
 use Rattle.tariff.specs.Units.{centsOf}
 use Rattle.tariff.specs.Import.{curtailed, counts, importSum, Part, part, importPart, Parts, sum, stoppedIn, partsTo, ImportReply, paid, settled, worthTold, importTold}
+use Rattle.tariff.specs.ImportDemand.{grainsIn, IsPart, FirstRefused}
 use Rattle.tariff.proofs.Answers.{worth-one, import-one}
 use Rattle.tariff.proofs.ImportGrains.{uncounted-same, cts-nothing, part-fits}
-use Rattle.tariff.proofs.ImportDays.{grainsIn, IsPart, FirstRefused, parts-same, sum-parts, stop-stays, stop-first, first-stop, paid-day, cents-least}
+use Rattle.tariff.proofs.ImportDays.{sum-parts, stop-first, first-stop, paid-day}
 
 -- ---- which intervals count
 
--- What the numbers of an interval are that does not count changes nothing.
+-- An interval that does not count may say anything: two hours that differ in at most one such interval have one sum.
 pub not-counting-changes-nothing :
     (cts : ℤ) (h g : ImportHour) (i : ℕ)
     → h .den ≡ g .den
@@ -29,20 +31,11 @@ pub not-counting-changes-nothing :
     → importSum cts h ≡ importSum cts g
 not-counting-changes-nothing = uncounted-same
 
--- An import at a CTS enabled bus is paid nothing.
+-- No hour of an import at a CTS enabled bus gives anything.
 pub cts-pays-nothing : (cts : ℤ) (h : ImportHour) → eqZ cts (pos 0) ≡ false → importSum cts h ≡ pos 0
 cts-pays-nothing = cts-nothing
 
 -- ---- a block that is refused
-
--- Once a block has refused the day, nothing that follows it is read: another day that is the same up to there has the same refusal.
-pub refused-block-refuses-the-day :
-    (parts others : ℕ → Part) (k n hour number place : ℕ)
-    → ((j : ℕ) → j < k → parts j ≡ others j)
-    → partsTo parts k ≡ stoppedIn hour number place
-    → partsTo others (k + n) ≡ stoppedIn hour number place
-refused-block-refuses-the-day parts others k n hour number place same e =
-    stop-stays others k n hour number place (rw (← parts-same parts others k same) e)
 
 -- The day's refusal is that of its first refused block, with its hour; and where a block is refused and none before it, the day is.
 pub first-refused :
@@ -72,12 +65,6 @@ pub import-rounded-once :
     → settled name surplus p ≡ paid name′ g c
     → (c ≡ centsOf g) × (p ≡ sum g) × (surplus ≡ false) × (name′ ≡ name)
 import-rounded-once = paid-day
-
-pub paid-not-negative :
-    (name name′ g c : ℤ) (surplus : Bool) (p : Parts)
-    → settled name surplus p ≡ paid name′ g c
-    → pos 0 ≤ℤ c
-paid-not-negative name name′ g c surplus p e = rw (paid-day name name′ g c surplus p e .0) (cents-least g)
 
 -- ---- no two different replies satisfy a contract
 

@@ -1,7 +1,8 @@
 -- What is proved of the definitions: `Demands` states it, the others hold the laws that it cites and those that the engine needs.
 pub mod Tests
 pub mod Checks
-pub mod Payments
+pub mod Ordered
+pub mod Numbers
 pub mod Ranges
 pub mod Curves
 pub mod Scan
@@ -12,13 +13,14 @@ pub mod Limits
 pub mod Others
 pub mod Needed
 pub mod Replies
-pub mod Reach
+pub mod Payments
+pub mod ByInterval
 pub mod Rows
 pub mod Answers
 pub mod Steps
-pub mod Ordered
 pub mod ImportRanges
 pub mod ImportGrains
 pub mod ImportDays
 pub mod Imports
 pub mod Demands
+pub mod Unique

@@ -105,14 +105,14 @@ module _ (h : Hour) (isExcluded : Bool) (i : ℕ) where
   outcome-same da rt u same =
       staged-same isExcluded _ _ others (amountBy (h .da) (h .rt)) (amountBy da rt)
       (λ x l d. energy-same (h .da) (h .rt) (h .ahead) (interval h i) da rt
-      (λ k w. same k (record { counted = u; eligible = x; moving = l; roomy = d; needed = w })))
+      (λ k w. same k (record { counted = u; eligible = x; notLagging = l; noDerate = d; needed = w })))
 
   pub unpriced-unreached : Unpriced h isExcluded i → outcomeAt h isExcluded i ≡ unreached
   unfolding outcomeAt outcome
   unpriced-unreached w =
       let m = w .needed in
       let e = energy-none (h .da) (h .rt) (h .ahead) (interval h i) (record { kilowatt = w .kilowatt; needed = m .needed; missing = w .missing }) in
-      rw (m .eligible, m .moving, m .roomy, e)
+      rw (m .eligible, m .notLagging, m .noDerate, e)
 
   pub unreached-unpriced : i < h .n → outcomeAt h isExcluded i ≡ unreached → Unpriced h isExcluded i
   unfolding outcomeAt outcome
@@ -121,16 +121,16 @@ module _ (h : Hour) (isExcluded : Bool) (i : ℕ) where
       let m = none-energy (h .da) (h .rt) (h .ahead) (interval h i) (s .3) in
       record {
         kilowatt = m .kilowatt;
-        needed = record { counted = u; eligible = s .0; moving = s .1; roomy = s .2; needed = m .needed };
+        needed = record { counted = u; eligible = s .0; notLagging = s .1; noDerate = s .2; needed = m .needed };
         missing = m .missing;
       }
 
   pub refused-derated : DerateRefused h isExcluded i → outcomeAt h isExcluded i ≡ derated
   unfolding outcomeAt outcome
-  refused-derated w = rw (w .eligible, w .moving, w .exceeded)
+  refused-derated w = rw (w .eligible, w .notLagging, w .exceeded)
 
   pub derated-refused : i < h .n → outcomeAt h isExcluded i ≡ derated → DerateRefused h isExcluded i
   unfolding outcomeAt outcome
   derated-refused u e =
       let s = staged-derated isExcluded _ _ others (amountBy (h .da) (h .rt)) e in
-      record { counted = u; eligible = s .0; moving = s .1; exceeded = s .2 }
+      record { counted = u; eligible = s .0; notLagging = s .1; exceeded = s .2 }

@@ -1,13 +1,13 @@
 -- Five schedules in a row by remainder: of their ranks exactly n are below n, for every n up to 5.
-use mathlib.Core.Path.{_≡_, sym, _∙_, ap}
-use mathlib.Core.Logic.{_≢_}
+use mathlib.Core.Path.{_≡_, refl, sym, _∙_, ap}
+use mathlib.Core.Logic.{_≢_, _↔_, _⊎_, inl, inr}
 use mathlib.Core.Bool.{Bool, true, false, _&&_, _||_}
 use Prim.Native.Nat.{ℕ, zero, suc, _+_, _-_, _*_, _<_, _≤_, min}
 use native.Mathlib.Nat.{zero-add, add-zero, add-suc}
 use native.Mathlib.Decide.{decLt}
 use native.Mathlib.Omega.{arith}
 use lib.Dec.{ltb, eqb}
-use borrow.Author.Tests.{ltb-true, ltb-false, eqb-true, eqb-false, ne-eqb}
+use borrow.Author.Tests.{ltb-true, ltb-false, lt-ltb, eqb-true, eqb-false, eq-eqb, ne-eqb}
 use Rattle.exact.proofs.Parts.{by-test}
 use Rattle.tariff.specs.Derate.{ofFive, one, isBefore, rank}
 
@@ -33,6 +33,17 @@ one-apart a b n h =
     (λ t. one t + one (eqb b n) ≤ 1)
     (λ e. omega (arith, ap one (ne-eqb b n (λ q. h (eqb-true a n e ∙ sym q)))))
     (λ e. omega (arith, one-small (eqb b n)))
+
+-- a test of three, taken apart and put together
+halves : (a b c : Bool) → (a || (b && c)) ≡ true → (a ≡ true) ⊎ ((b ≡ true) × (c ≡ true))
+halves true b c e = inl refl
+halves false true true e = inr (refl, refl)
+halves false true false e = absurd (let z : _≡_ {A = ℕ} 0 1 = cc in omega arith)
+halves false false c e = absurd (let z : _≡_ {A = ℕ} 0 1 = cc in omega arith)
+
+or-true : (a : Bool) → (a || true) ≡ true
+or-true true = refl
+or-true false = refl
 
 -- ---- what holds at each of five, and sums of five
 
@@ -122,7 +133,19 @@ module _ (rem : ℕ → ℕ) where
       (λ q. omega (arith, eqb-true (rem i) (rem j) q, one-lt i j))
       (λ q. let differ : rem i ≢ rem j = eqb-false (rem i) (rem j) q in omega (arith, ltb-false (rem j) (rem i) e)))
 
-  pub rank-lt : (i j : ℕ) → i < 5 → j < 5 → rem j * 5 + i < rem i * 5 + j → rank rem i < rank rem j
+  -- by a larger remainder, or by the same and earlier in the order
+  pub before-when : (i j : ℕ) → (isBefore rem i j ≡ true) ↔ ((rem j < rem i) ⊎ ((rem i ≡ rem j) × (i < j)))
+  before-when i j = (λ e. told (halves (ltb (rem j) (rem i)) (eqb (rem i) (rem j)) (ltb i j) e), holds)
+    where
+      told : (ltb (rem j) (rem i) ≡ true) ⊎ ((eqb (rem i) (rem j) ≡ true) × (ltb i j ≡ true)) → (rem j < rem i) ⊎ ((rem i ≡ rem j) × (i < j))
+      told (inl e) = inl (ltb-true (rem j) (rem i) e)
+      told (inr e) = inr (eqb-true (rem i) (rem j) (e .0), ltb-true i j (e .1))
+
+      holds : (rem j < rem i) ⊎ ((rem i ≡ rem j) × (i < j)) → isBefore rem i j ≡ true
+      holds (inl u) = rw (lt-ltb (rem j) (rem i) u)
+      holds (inr e) = rw (eq-eqb (rem i) (rem j) (e .0), lt-ltb i j (e .1)) (or-true (ltb (rem j) (rem i)))
+
+  rank-lt : (i j : ℕ) → i < 5 → j < 5 → rem j * 5 + i < rem i * 5 + j → rank rem i < rank rem j
   rank-lt i j u v h =
       omega (
         arith,
@@ -135,6 +158,9 @@ module _ (rem : ℕ → ℕ) where
         one-before i i u u,
         one-before i j u v,
       )
+
+  pub before-lt : (i j : ℕ) → i < 5 → j < 5 → isBefore rem i j ≡ true → rank rem i < rank rem j
+  before-lt i j u v e = rank-lt i j u v (omega (arith, one-before i j u v, ap one e))
 
   rank-small : (j : ℕ) → j < 5 → rank rem j < 5
   rank-small j u =

@@ -12,7 +12,7 @@ use Rattle.tariff.specs.declared.Uol.the-variants.{Missing, At}
 use Rattle.tariff.specs.declared.DayAhead.{DayAhead}
 use Rattle.tariff.specs.declared.Interval.{Interval}
 use Rattle.tariff.specs.Sheet.{aheadInRange, intervalInRange}
-use Rattle.tariff.specs.Derate.{dayAhead, realTime, ofFive, reduction, potential, exceeds, reducedBy, isDerated, reduced}
+use Rattle.tariff.specs.Derate.{dayAhead, realTime, ofFive, redTot, potRed, exceedsUnder, reducedBy, exceedsRoom, reduced}
 use Rattle.tariff.proofs.Ranges.{ahead-fits, interval-fits}
 use Rattle.tariff.proofs.Ranks.{at-five}
 use Rattle.tariff.proofs.Shares.{share-bound}
@@ -31,12 +31,12 @@ cut-within d r n u v h =
     omega (arith, less-parts d r, less-parts d (pos n), apart d, apart r, apart (d -ℤ r), apart (d -ℤ pos n))
 
 module _ (a : DayAhead) (v : Interval) (ea : aheadInRange a ≡ true) (ev : intervalInRange v ≡ true) where
-  by-limit : (limit : Uol) → exceeds a v limit ≡ false → (j : ℕ) → j < 5 → Within 2000000 (reducedBy a v limit j)
+  by-limit : (limit : Uol) → exceedsUnder a v limit ≡ false → (j : ℕ) → j < 5 → Within 2000000 (reducedBy a v limit j)
   by-limit Missing e j u = ahead-within a ea j u
   by-limit (At limit) e j u =
       cut-within (dayAhead a j) (realTime v j) _ (ahead-within a ea j u) (live-within v ev j u)
-      (share-bound (potential a v) (reduction a (limit .0)) (ltb-false (ofFive (potential a v)) (reduction a (limit .0)) e) j)
+      (share-bound (potRed a v) (redTot a (limit .0)) (ltb-false (ofFive (potRed a v)) (redTot a (limit .0)) e) j)
 
-  pub reduced-within : isDerated a v ≡ false → (j : ℕ) → j < 5 → Within 2000000 (reduced a v j)
-  unfolding isDerated reduced
+  pub reduced-within : exceedsRoom a v ≡ false → (j : ℕ) → j < 5 → Within 2000000 (reduced a v j)
+  unfolding exceedsRoom reduced
   reduced-within e j u = by-limit (v .uol) e j u

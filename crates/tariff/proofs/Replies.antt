@@ -1,10 +1,10 @@
--- Laws of the reply: what holds of a paid hour, and hours that differ in their curves alone.
+-- Laws of the reply: a paid hour passes every check, and hours that differ in their curves alone.
 use mathlib.Core.Path.{_≡_, refl, sym, _∙_, ap, subst}
 use mathlib.Core.Bool.{Bool, true, false}
 use mathlib.Core.List.{List}
-use Prim.Native.Nat.{ℕ, _<_, _≤_}
+use Prim.Native.Nat.{ℕ, _<_}
 use native.Mathlib.Omega.{arith}
-use borrow.Author.Tests.{leb-true}
+use borrow.Author.Tests.{leb-true, le-leb}
 use lib.Dec.{leb}
 use lib.ListN.{length}
 use lib.IntN.{ℤ}
@@ -14,36 +14,33 @@ use Rattle.tariff.specs.declared.Curve.{Curve}
 use Rattle.tariff.specs.declared.Hour.{Hour}
 use Rattle.tariff.specs.declared.Expected.{Expected}
 use Rattle.tariff.specs.Curve.{Amount, known, none, quote}
-use Rattle.tariff.specs.Reply.{Reply, paid, refused, clear}
+use Rattle.tariff.specs.Reply.{Reply, paid, refused, ROOM, clear}
+use Rattle.tariff.specs.Units.{centsOf}
 use Rattle.tariff.specs.Contributions.{isLower}
 use Rattle.tariff.specs.Derate.{reduced}
-use Rattle.tariff.specs.Hour.{interval, form, range, order, curves, secondsSum, outcomeAt, unreached, faultAt, intervals, amount, contribution, hourSum, blockFault, reply, rowFor, rowAfter}
-use Rattle.tariff.specs.Demand.{MustPrice, priceIn, Unpriced, Alike, NoFaultTo4, NoFaultTo5, Extends}
+use Rattle.tariff.specs.Hour.{interval, secondsSum, outcomeAt, unreached, faultAt, intervals, amount, contribution, hourSum, blockFault, reply, rowFor, rowAfter}
+use Rattle.tariff.specs.Demand.{MustPrice, priceIn, Unpriced, Alike, NoFaultTo4, Passes, Extends}
 use Rattle.tariff.proofs.Checks.{then-clear, unless-clear, otherwise-paid, first-same, first-clear}
+use Rattle.tariff.proofs.Ordered.{clear-to5, reply-past}
 use Rattle.tariff.proofs.Needed.{withCurves, outcome-same, unpriced-unreached}
 
--- ---- a paid hour passes every check
+-- ---- an hour is paid exactly when it passes every check
 
-pub record Passes (h : Hour) (isExcluded : Bool) (expected : Expected) (room : ℕ) : Type 0 where
-  pub to5 : NoFaultTo5 h expected
-  pub intervals : intervals h isExcluded ≡ clear
-  pub fits : h .n ≤ room
+module _ (h : Hour) (isExcluded : Bool) (expected : Expected) (room : ℕ) where
+  pub paid-passes : (sum cents : ℤ) → reply h isExcluded expected room ≡ paid sum cents → Passes h isExcluded expected room
+  unfolding reply
+  paid-passes sum cents e =
+      let all = then-clear (blockFault h expected) _ (otherwise-paid _ _ sum cents e) in
+      let last = then-clear (intervals h isExcluded) _ (all .1) in
+      record {
+        to5 = clear-to5 h isExcluded expected room (all .0);
+        intervals = last .0;
+        fits = leb-true (h .n) room (unless-clear (leb (h .n) room) ROOM 0 (last .1));
+      }
 
-pub paid-passes : (h : Hour) (isExcluded : Bool) (expected : Expected) (room : ℕ) (sum cents : ℤ) → reply h isExcluded expected room ≡ paid sum cents
-    → Passes h isExcluded expected room
-unfolding reply
-paid-passes h isExcluded expected room sum cents e =
-    let all = then-clear (blockFault h expected) _ (otherwise-paid _ _ sum cents e) in
-    let one = then-clear (form h) _ (all .0) in
-    let two = then-clear (range h) _ (one .1) in
-    let three = then-clear (order h expected) _ (two .1) in
-    let four = then-clear (curves h) _ (three .1) in
-    let last = then-clear (intervals h isExcluded) _ (all .1) in
-    record {
-      to5 = record { to4 = record { form = one .0; range = two .0; order = three .0; curves = four .0 }; seconds = four .1 };
-      intervals = last .0;
-      fits = leb-true (h .n) room (unless-clear (leb (h .n) room) 8 0 (last .1));
-    }
+  pub passes-paid : Passes h isExcluded expected room
+      → reply h isExcluded expected room ≡ paid (hourSum h isExcluded) (centsOf (hourSum h isExcluded))
+  passes-paid p = reply-past h isExcluded expected room (p .to5) ∙ rw (p .intervals, le-leb (h .n) room (p .fits))
 
 -- ---- hours that give the same in each interval
 

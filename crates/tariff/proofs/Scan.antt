@@ -2,20 +2,20 @@
 use mathlib.Core.Path.{_≡_, refl, sym, ap, _∙_}
 use mathlib.Core.Bool.{Bool, true, false}
 use Prim.Native.Nat.{ℕ, zero, suc, _+_, _-_, _*_, _<_, _≤_}
-use native.Mathlib.Nat.{add-zero, add-suc, sub-zero, mul-le-mul}
+use native.Mathlib.Nat.{add-zero, add-suc, sub-zero}
 use native.Mathlib.Omega.{arith}
-use lib.IntN.{ℤ, pos, sucℤ, _+ℤ_, _-ℤ_, _*ℤ_, +ℤ-assoc, +ℤ-idl, +ℤ-idr, sucℤ-*ℤ, zero-*ℤ}
+use lib.IntN.{ℤ, pos, _+ℤ_, _-ℤ_, _*ℤ_, +ℤ-assoc, +ℤ-idl, +ℤ-idr, sucℤ-*ℤ, zero-*ℤ}
 use lib.Signed.{ltZ}
 use Rattle.exact.specs.Choice.{if_then_else_}
-use Rattle.exact.specs.Whole.{over, under, span, Within}
+use Rattle.exact.specs.Whole.{span, Within}
 use Rattle.exact.proofs.Parts.{arithℤ, add-parts, span-parts}
 use Rattle.exact.proofs.Ring.{+-over-*}
-use Rattle.exact.proofs.Order.{span-gap, span-none, span-some, lt-flip, step-step}
+use Rattle.exact.proofs.Order.{span-gap, span-some, lt-flip, step-step}
 use Rattle.exact.proofs.Range.{within-add, within-mul, within-more, within-zero}
 use Rattle.tariff.specs.declared.Curve.{Curve}
 use Rattle.tariff.specs.Sheet.{endOf, priceOf}
 use Rattle.tariff.specs.Curve.{Amount, known, none, quoteFrom, quote, plus, change, sumUp}
-use Rattle.tariff.proofs.Curves.{none-plus, sum-nothing, sum-up-same, sum-up-none}
+use Rattle.tariff.proofs.Curves.{sum-nothing, sum-up-same, sum-up-none}
 
 -- ---- amounts
 

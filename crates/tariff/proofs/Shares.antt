@@ -1,6 +1,6 @@
 -- The shares of a reduction: who is served of what is left over; and within the room they sum to it, and none exceeds its potential.
 use mathlib.Core.Path.{_≡_, refl, ap}
-use mathlib.Core.Logic.{_≢_}
+use mathlib.Core.Logic.{_≢_, _⊎_, inl, inr}
 use mathlib.Core.Bool.{Bool, true, false, _||_}
 use Prim.Native.Nat.{ℕ, zero, suc, _+_, _-_, _*_, _/_, _%_, _<_, _≤_}
 use native.Mathlib.Nat.{div-add-mod', mod-lt, mul-le-mul-left, le-of-mul-le-mul-right, lt-of-mul-lt-mul-right}
@@ -11,7 +11,7 @@ use borrow.Author.Tests.{ltb-false, le-ltb, eqb-true, eqb-false, eq-eqb}
 use Rattle.exact.specs.Choice.{if_then_else_}
 use Rattle.exact.proofs.Parts.{by-test}
 use Rattle.tariff.specs.Derate.{ofFive, floorOf, remainder, leftOver, one, isBefore, rank, share}
-use Rattle.tariff.proofs.Ranks.{one-small, one-lt, five, five-same, five-le, rank-lt, ranks-below}
+use Rattle.tariff.proofs.Ranks.{one-small, one-lt, five, five-same, five-le, before-lt, ranks-below}
 
 -- ---- plain numbers
 
@@ -47,17 +47,25 @@ pub share-small : (pot : ℕ → ℕ) (red j : ℕ) → share pot red j ≤ floo
 unfolding share
 share-small pot red j = omega (arith, one-small (ltb (rank (remainder pot red) j) (leftOver pot red)))
 
--- a schedule with a larger remainder than one that is served is served too
-pub served-first : (pot : ℕ → ℕ) (red i j : ℕ) → i < 5 → j < 5 → remainder pot red j < remainder pot red i
+pub share-one : (pot : ℕ → ℕ) (red j : ℕ) → (share pot red j ≡ floorOf pot red j) ⊎ (share pot red j ≡ floorOf pot red j + 1)
+unfolding share
+share-one pot red j = go (ltb (rank (remainder pot red) j) (leftOver pot red))
+  where
+    go : (t : Bool) → (floorOf pot red j + one t ≡ floorOf pot red j) ⊎ (floorOf pot red j + one t ≡ floorOf pot red j + 1)
+    go true = inr refl
+    go false = inl (omega arith)
+
+-- a schedule that comes before one that is served is served too
+pub served-first : (pot : ℕ → ℕ) (red i j : ℕ) → i < 5 → j < 5 → isBefore (remainder pot red) i j ≡ true
     → share pot red j ≡ floorOf pot red j + 1
     → share pot red i ≡ floorOf pot red i + 1
 unfolding share
-served-first pot red i j u v larger served =
+served-first pot red i j u v before served =
     omega (
       arith,
       one-lt (rank (remainder pot red) i) (leftOver pot red),
       one-lt (rank (remainder pot red) j) (leftOver pot red),
-      rank-lt (remainder pot red) i j u v (omega arith),
+      before-lt (remainder pot red) i j u v before,
     )
 
 module _ (pot : ℕ → ℕ) (red : ℕ) (fits : red ≤ ofFive pot) where

@@ -1,6 +1,6 @@
 -- The steps of a curve: which kilowatts have a price, and that further steps change none.
-use mathlib.Core.Path.{_≡_, refl, _∙_, ap}
-use mathlib.Core.Bool.{Bool, true, false, _&&_}
+use mathlib.Core.Path.{_≡_, refl}
+use mathlib.Core.Bool.{Bool, true, false}
 use mathlib.Core.Logic.{_↔_}
 use Prim.Native.Nat.{ℕ, zero, suc, _+_, _-_, _<_, _≤_}
 use native.Mathlib.Decide.{decLt, decLe}
@@ -16,6 +16,7 @@ use Rattle.tariff.specs.declared.Curve.{Curve}
 use Rattle.tariff.specs.Sheet.{endOf, priceOf, beginOf, allTo, rises, isFair, stepKeeps, curveKeeps}
 use Rattle.tariff.specs.Curve.{known, none, quoteFrom, quote}
 use Rattle.tariff.specs.Demand.{Extends}
+use Rattle.tariff.proofs.Tests.{and-left, all-at}
 
 -- ---- the first step that ends above k
 
@@ -101,31 +102,17 @@ more-steps c d s u same = record { keeps = λ k p. rw (← s) (go k p (ltZ k (c 
 
 -- ---- ends that rise
 
-and-true : (a b : Bool) → (a && b) ≡ true → (a ≡ true) × (b ≡ true)
-and-true true b e = (refl, e)
-and-true false b e = absurd (let z : _≡_ {A = ℕ} 0 1 = cc in omega arith)
-
-all-at : (f : ℕ → Bool) (n : ℕ) → allTo f n ≡ true → (i : ℕ) → i < n → f i ≡ true
-unfolding allTo
-all-at f zero e i u = absurd (omega arith)
-all-at f (suc n) e i u = go (and-true (allTo f n) (f n) e) (all-at f n) (decLt i n)
-  where
-    go : (allTo f n ≡ true) × (f n ≡ true) → (allTo f n ≡ true → (i : ℕ) → i < n → f i ≡ true) → Dec (i < n) → f i ≡ true
-    go p ih (yes v) = ih (p .0) i v
-    go p ih (no v) = let same : i ≡ n = omega arith in ap f same ∙ p .1
-
 module _ (c : Curve) (keeps : curveKeeps c ≡ true) where
   rising : (j : ℕ) → j < c .n → ltZ (beginOf c j) (endOf c j) ≡ true
   unfolding curveKeeps
   rising j u =
-      and-true (rises c j) (isFair c j)
-      (all-at (stepKeeps c) (c .n)
+      and-left (rises c j) (isFair c j)
+      (all-at (stepKeeps c) (c .n) j
       (by-test (eqb (c .n) 0)
       (λ t. (if t then eqZ (c .start .0) (pos 0) else allTo (stepKeeps c) (c .n)) ≡ true → allTo (stepKeeps c) (c .n) ≡ true)
       (λ e q. absurd (omega (arith, eqb-true (c .n) 0 e)))
       (λ e q. q)
-      keeps) j u)
-      .0
+      keeps) u)
 
   -- no step begins above a later one, and a step ends where the next begins
   begins-rise : (i j : ℕ) → i ≤ j → j ≤ c .n → beginOf c i ≤ℤ beginOf c j

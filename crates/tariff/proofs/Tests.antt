@@ -17,6 +17,16 @@ pub all-more : (f : ℕ → Bool) (n : ℕ) → allTo f (n + 1) ≡ (allTo f n &
 unfolding allTo
 all-more f n = rw add-one
 
+-- one number more
+pub all-next : (f : ℕ → Bool) (n : ℕ) → allTo f n ≡ true → f n ≡ true → allTo f (n + 1) ≡ true
+all-next f n e h = all-more f n ∙ and-both (allTo f n) (f n) e h
+
+-- two tests that agree at each of them
+pub all-same : (f g : ℕ → Bool) (n : ℕ) → ((k : ℕ) → k < n → f k ≡ g k) → allTo f n ≡ allTo g n
+unfolding allTo
+all-same f g zero e = refl
+all-same f g (suc n) e = λ i. all-same f g n (λ k u. e k (omega arith)) i && e n (omega arith) i
+
 pub all-at : (f : ℕ → Bool) (n j : ℕ) → allTo f n ≡ true → j < n → f j ≡ true
 unfolding allTo
 all-at f zero j e u = absurd (omega arith)

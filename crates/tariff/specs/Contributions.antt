@@ -1,6 +1,5 @@
 -- "Contributions (25.3.1, 25.3.4)": energy by its lower or upper branch, reserves, regulation, movement.
-use mathlib.Core.Bool.{Bool, true, false, _&&_, _||_}
-use Prim.Native.Nat.{ℕ}
+use mathlib.Core.Bool.{Bool, _&&_, _||_}
 use lib.IntN.{ℤ, pos, _+ℤ_, _-ℤ_, _*ℤ_}
 use lib.Signed.{ltZ, leZ}
 use Rattle.exact.specs.Choice.{if_then_else_}
@@ -9,14 +8,14 @@ use Rattle.tariff.specs.declared.Curve.{Curve}
 use Rattle.tariff.specs.declared.DayAhead.{DayAhead}
 use Rattle.tariff.specs.declared.Interval.{Interval}
 use Rattle.tariff.specs.Units.{grainsOf, movedGrains}
-use Rattle.tariff.specs.Curve.{Amount, known, none, change, integral}
+use Rattle.tariff.specs.Curve.{Amount, change, integral}
 use Rattle.tariff.specs.Derate.{reduced}
 
--- ---- energy: D, R, E and A are day-ahead energy, real-time energy, `eop` and `ae`
+-- ---- energy: D is day-ahead energy after the derate, R real-time energy, E `eop`, and A the capped `ae`
 
 -- A is capped at R + `co` when R > 0
-abbrev pub capped : (R A co : ℤ) → ℤ
-capped R A co = if ltZ (pos 0) R then minℤ A (R +ℤ co) else A
+abbrev pub capped : (R ae co : ℤ) → ℤ
+capped R ae co = if ltZ (pos 0) R then minℤ ae (R +ℤ co) else ae
 
 -- D > 0 and R < D, or D < 0 and R > D
 abbrev pub isLower : (D R : ℤ) → Bool

@@ -1,5 +1,4 @@
 -- The curve by kilowatt: kilowatt k is the stretch from k to k + 1, and has a price or none.
-use mathlib.Core.Bool.{Bool, true, false}
 use Prim.Native.Nat.{ℕ, zero, suc, _+_}
 use lib.IntN.{ℤ, pos, negℤ, _+ℤ_}
 use lib.Signed.{ltZ, leZ}

@@ -14,9 +14,9 @@ use Rattle.tariff.specs.declared.Expected.{Expected}
 use Rattle.tariff.specs.Curve.{Amount, known, none, quote}
 use Rattle.tariff.specs.Reply.{clear}
 use Rattle.tariff.specs.Eligible.{lags}
-use Rattle.tariff.specs.Derate.{isDerated, reduced}
+use Rattle.tariff.specs.Derate.{exceedsRoom, reduced}
 use Rattle.tariff.specs.Contributions.{isLower, limitOf, cappedOf}
-use Rattle.tariff.specs.Hour.{interval, form, range, order, curves, secondsSum}
+use Rattle.tariff.specs.Hour.{interval, form, range, order, curves, secondsSum, intervals}
 
 -- kilowatt k lies between a and b, whichever is the greater
 pub record Between (a b k : ℤ) : Type 0 where
@@ -34,8 +34,8 @@ curveIn h v = if isLower (reduced (h .ahead) v 0) (v .en .0) then h .da else h .
 pub record MustPrice (h : Hour) (isExcluded : Bool) (i : ℕ) (k : ℤ) : Type 0 where
   pub counted : i < h .n
   pub eligible : isExcluded ≡ false
-  pub moving : lags (interval h i) ≡ false
-  pub roomy : isDerated (h .ahead) (interval h i) ≡ false
+  pub notLagging : lags (interval h i) ≡ false
+  pub noDerate : exceedsRoom (h .ahead) (interval h i) ≡ false
   pub needed : Between (reduced (h .ahead) (interval h i) 0) (limitIn (h .ahead) (interval h i)) k
 
 -- the price of kilowatt k on the curve that interval i is settled by
@@ -52,14 +52,20 @@ pub record Unpriced (h : Hour) (isExcluded : Bool) (i : ℕ) : Type 0 where
 pub record DerateRefused (h : Hour) (isExcluded : Bool) (i : ℕ) : Type 0 where
   pub counted : i < h .n
   pub eligible : isExcluded ≡ false
-  pub moving : lags (interval h i) ≡ false
-  pub exceeded : isDerated (h .ahead) (interval h i) ≡ true
+  pub notLagging : lags (interval h i) ≡ false
+  pub exceeded : exceedsRoom (h .ahead) (interval h i) ≡ true
 
 -- i is the first interval with an unpriced needed kilowatt, and no derate refusal falls at or before it
 pub record FirstUnpriced (h : Hour) (isExcluded : Bool) (i : ℕ) : Type 0 where
   pub here : Unpriced h isExcluded i
   pub first : (j : ℕ) → j < i → Unpriced h isExcluded j → ⊥
-  pub underated : (j : ℕ) → j ≤ i → DerateRefused h isExcluded j → ⊥
+  pub noDerateBefore : (j : ℕ) → j ≤ i → DerateRefused h isExcluded j → ⊥
+
+-- i is the first interval whose reduction exceeds the room for it, and no needed kilowatt before it is unpriced
+pub record FirstExceeded (h : Hour) (isExcluded : Bool) (i : ℕ) : Type 0 where
+  pub here : DerateRefused h isExcluded i
+  pub first : (j : ℕ) → j < i → DerateRefused h isExcluded j → ⊥
+  pub noReachBefore : (j : ℕ) → j < i → Unpriced h isExcluded j → ⊥
 
 -- two hours alike in all but their curves
 pub record Alike (h g : Hour) : Type 0 where
@@ -78,6 +84,12 @@ pub record NoFaultTo4 (h : Hour) (expected : Expected) : Type 0 where
 pub record NoFaultTo5 (h : Hour) (expected : Expected) : Type 0 where
   pub to4 : NoFaultTo4 h expected
   pub seconds : secondsSum h ≡ clear
+
+-- no check refuses: none from 1 to 5, neither 6 nor 7 in any interval, and the lent row has an entry for each interval
+pub record Passes (h : Hour) (isExcluded : Bool) (expected : Expected) (room : ℕ) : Type 0 where
+  pub to5 : NoFaultTo5 h expected
+  pub intervals : intervals h isExcluded ≡ clear
+  pub fits : h .n ≤ room
 
 -- d has every price that c has, and perhaps more
 pub record Extends (c d : Curve) : Type 0 where

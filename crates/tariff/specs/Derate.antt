@@ -1,6 +1,6 @@
 -- "Derate (25.5)": the reduction of the five day-ahead schedules, shared out in whole kilowatts.
 use mathlib.Core.Bool.{Bool, true, false, _&&_, _||_}
-use mathlib.Core.List.{List, [], _∷_}
+use mathlib.Core.List.{[], _∷_}
 use Prim.Native.Nat.{ℕ, _+_, _-_, _*_, _/_, _%_}
 use lib.Dec.{ltb, eqb}
 use lib.ListN.{getD}
@@ -25,11 +25,11 @@ ofFive f = f 0 + f 1 + f 2 + f 3 + f 4
 
 -- ---- REDtot, each POTRED, and the room for the reduction
 
-abbrev pub reduction : DayAhead → ℤ → ℕ
-reduction a limit = over (sumTo (dayAhead a) 5 -ℤ limit)
+abbrev pub redTot : DayAhead → ℤ → ℕ
+redTot a limit = over (sumTo (dayAhead a) 5 -ℤ limit)
 
-abbrev pub potential : DayAhead → Interval → ℕ → ℕ
-potential a v j = over (dayAhead a j -ℤ realTime v j)
+abbrev pub potRed : DayAhead → Interval → ℕ → ℕ
+potRed a v j = over (dayAhead a j -ℤ realTime v j)
 
 -- ---- the shares of a reduction `red`, by the potentials `pot`
 
@@ -62,17 +62,17 @@ share pot red j = floorOf pot red j + one (ltb (rank (remainder pot red) j) (lef
 -- ---- the interval's derate
 
 -- the reduction exceeds the room for it
-abbrev pub exceeds : DayAhead → Interval → Uol → Bool
-exceeds a v Missing = false
-exceeds a v (At limit) = ltb (ofFive (potential a v)) (reduction a (limit .0))
+abbrev pub exceedsUnder : DayAhead → Interval → Uol → Bool
+exceedsUnder a v Missing = false
+exceedsUnder a v (At limit) = ltb (ofFive (potRed a v)) (redTot a (limit .0))
 
 -- the schedules that every later rule reads
 abbrev pub reducedBy : DayAhead → Interval → Uol → ℕ → ℤ
 reducedBy a v Missing j = dayAhead a j
-reducedBy a v (At limit) j = dayAhead a j -ℤ pos (share (potential a v) (reduction a (limit .0)) j)
+reducedBy a v (At limit) j = dayAhead a j -ℤ pos (share (potRed a v) (redTot a (limit .0)) j)
 
-unfoldable pub isDerated : DayAhead → Interval → Bool
-isDerated a v = exceeds a v (v .uol)
+unfoldable pub exceedsRoom : DayAhead → Interval → Bool
+exceedsRoom a v = exceedsUnder a v (v .uol)
 
 unfoldable pub reduced : DayAhead → Interval → ℕ → ℤ
 reduced a v j = reducedBy a v (v .uol) j

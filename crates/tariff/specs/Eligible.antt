@@ -1,5 +1,5 @@
 -- "Who is eligible": the day's marks, and the interval that lags.
-use mathlib.Core.Bool.{Bool, true, false, _&&_, _||_}
+use mathlib.Core.Bool.{Bool, false, _&&_, _||_}
 use Prim.Native.Nat.{ℕ, zero, suc, _+_, _/_, _%_, _^_}
 use lib.Dec.{leb, eqb}
 use lib.ListN.{getD}
@@ -24,7 +24,7 @@ near g h = leb g (h + 2) && leb h (g + 2)
 abbrev pub markedNear : ℕ → ℕ → ℕ → Bool
 markedNear hours word h = someTo (λ g. marked word g && near g h) hours
 
--- x1, x2 and x3 act in their hour; x4, and with `rtc` x5 and x6, in the two before and after as well
+-- category 0, x1, x2 and x3 exclude their own hour; x4, and with `rtc=1` x5 and x6, the two before and after as well
 unfoldable pub excluded : ℕ → Marks → ℕ → Bool
 excluded hours m h =
     eqb (getD (m .cat) h 0) 0

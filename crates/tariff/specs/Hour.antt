@@ -1,5 +1,5 @@
 -- The hour: its checks in their order, the contributions of its intervals, the reply, and the lent row.
-use mathlib.Core.Bool.{Bool, true, false, _&&_}
+use mathlib.Core.Bool.{Bool, _&&_}
 use mathlib.Core.List.{List, _++_}
 use Prim.Native.Nat.{ℕ, _+_}
 use lib.Dec.{leb}
@@ -15,12 +15,12 @@ use Rattle.tariff.specs.declared.Expected.the-variants.{Any, Says}
 use Rattle.tariff.specs.Units.{kw, price, movePrice, seconds, centsOf}
 use Rattle.tariff.specs.Sheet.{isHour, aheadInRange, curveInRange, intervalInRange, curveKeeps}
 use Rattle.tariff.specs.Curve.{Amount, known, none}
-use Rattle.tariff.specs.Reply.{Reply, paid, refused, Verdict, clear, fault, unless, _then_, otherwise, firstOf}
+use Rattle.tariff.specs.Reply.{Reply, paid, refused, FORM, RANGE, ORDER, CURVE, SECONDS, DERATE, REACH, ROOM, Verdict, clear, fault, unless, _then_, otherwise, firstOf}
 use Rattle.tariff.specs.Eligible.{lags}
-use Rattle.tariff.specs.Derate.{isDerated}
+use Rattle.tariff.specs.Derate.{exceedsRoom}
 use Rattle.tariff.specs.Contributions.{energyOf, otherThanEnergy}
 
--- interval i, from 0; past the record's 30 places a line of zeros, which no check lets through
+-- what stands past a record's intervals: zeros, which RANGE would refuse for their seconds
 abbrev pub blank : Interval
 blank =
     record {
@@ -46,6 +46,7 @@ blank =
       bmv = movePrice (pos 0);
     }
 
+-- interval i, from 0
 abbrev pub interval : Hour → ℕ → Interval
 interval h i = getD (h .iv) i blank
 
@@ -53,24 +54,24 @@ interval h i = getD (h .iv) i blank
 
 -- a curve has at most 12 steps, and a block at most 30 intervals: line 34 would be one too many
 unfoldable pub form : Hour → Verdict
-form h = unless (leb (h .da .n) 12) 1 2 then unless (leb (h .rt .n) 12) 1 3 then unless (leb (h .n) 30) 1 34
+form h = unless (leb (h .da .n) 12) FORM 2 then unless (leb (h .rt .n) 12) FORM 3 then unless (leb (h .n) 30) FORM 34
 
 unfoldable pub range : Hour → Verdict
 range h =
-    unless (isHour (h .hour) && aheadInRange (h .ahead)) 2 1
-    then unless (curveInRange (h .da)) 2 2
-    then unless (curveInRange (h .rt)) 2 3
-    then firstOf (λ i. unless (intervalInRange (interval h i)) 2 (i + 4)) (h .n)
+    unless (isHour (h .hour) && aheadInRange (h .ahead)) RANGE 1
+    then unless (curveInRange (h .da)) RANGE 2
+    then unless (curveInRange (h .rt)) RANGE 3
+    then firstOf (λ i. unless (intervalInRange (interval h i)) RANGE (i + 4)) (h .n)
 
 unfoldable pub order : Hour → Expected → Verdict
 order h Any = clear
-order h (Says hour) = unless (eqZ (h .hour) hour) 3 1
+order h (Says hour) = unless (eqZ (h .hour) hour) ORDER 1
 
 unfoldable pub curves : Hour → Verdict
-curves h = unless (curveKeeps (h .da)) 4 2 then unless (curveKeeps (h .rt)) 4 3
+curves h = unless (curveKeeps (h .da)) CURVE 2 then unless (curveKeeps (h .rt)) CURVE 3
 
 unfoldable pub secondsSum : Hour → Verdict
-secondsSum h = unless (eqZ (sumTo (λ i. interval h i .s .0) (h .n)) (pos 3600)) 5 0
+secondsSum h = unless (eqZ (sumTo (λ i. interval h i .s .0) (h .n)) (pos 3600)) SECONDS 0
 
 -- ---- checks 6 and 7, interval by interval, 6 before 7 in each
 
@@ -89,7 +90,7 @@ outcome h v =
     if lags v
     then gives (pos 0)
     else
-    (if isDerated (h .ahead) v
+    (if exceedsRoom (h .ahead) v
     then derated
     else withOthers (otherThanEnergy (h .ahead) v) (energyOf (h .da) (h .rt) (h .ahead) v))
 
@@ -99,14 +100,15 @@ outcomeAt h isExcluded i = if isExcluded then gives (pos 0) else outcome h (inte
 
 abbrev pub faultAt : ℕ → Outcome → Verdict
 faultAt i (gives grains) = clear
-faultAt i derated = fault 6 (i + 1)
-faultAt i unreached = fault 7 (i + 1)
+faultAt i derated = fault DERATE (i + 1)
+faultAt i unreached = fault REACH (i + 1)
 
 unfoldable pub intervals : Hour → Bool → Verdict
 intervals h isExcluded = firstOf (λ i. faultAt i (outcomeAt h isExcluded i)) (h .n)
 
 -- ---- the reply and the row
 
+-- a refused interval has no contribution: its 0 is never paid, since its hour is refused
 abbrev pub amount : Outcome → ℤ
 amount (gives grains) = grains
 amount derated = pos 0
@@ -126,7 +128,7 @@ blockFault h expected = form h then range h then order h expected then curves h 
 unfoldable pub reply : Hour → Bool → Expected → ℕ → Reply
 reply h isExcluded expected room =
     otherwise
-    (blockFault h expected then intervals h isExcluded then unless (leb (h .n) room) 8 0)
+    (blockFault h expected then intervals h isExcluded then unless (leb (h .n) room) ROOM 0)
     (paid (hourSum h isExcluded) (centsOf (hourSum h isExcluded)))
 
 -- paid: the first entries are the contributions, and later ones as before. Refused: no entry is changed

@@ -17,7 +17,7 @@ use Rattle.tariff.specs.declared.ImportAnswer.{ImportAnswer}
 use Rattle.tariff.specs.declared.ImportAnswer.the-variants as answer
 use Rattle.tariff.specs.Units.{kw, price, seconds, centsOf}
 use Rattle.tariff.specs.Sheet.{liesIn, isSeconds, isHour, isCapacity, isPrice}
-use Rattle.tariff.specs.Reply.{Verdict, clear, fault, unless, _then_, firstOf, numberOf, placeOf}
+use Rattle.tariff.specs.Reply.{FORM, RANGE, ORDER, SECONDS, Verdict, clear, fault, unless, _then_, firstOf, numberOf, placeOf}
 
 -- ---- ranges: power as capacities, all prices alike, and marks 0 or 1
 
@@ -46,18 +46,18 @@ curtailed h i = getD (h .iv) i blankCurtailed
 
 -- line 32 would be one too many
 unfoldable pub importForm : ImportHour → Verdict
-importForm h = unless (leb (h .n) 30) 1 32
+importForm h = unless (leb (h .n) 30) FORM 32
 
 unfoldable pub importRange : ImportHour → Verdict
 importRange h =
-    unless (isHour (h .hour) && isCapacity (h .den .0) && isPrice (h .dec .0)) 2 1
-    then firstOf (λ i. unless (curtailedInRange (curtailed h i)) 2 (i + 2)) (h .n)
+    unless (isHour (h .hour) && isCapacity (h .den .0) && isPrice (h .dec .0)) RANGE 1
+    then firstOf (λ i. unless (curtailedInRange (curtailed h i)) RANGE (i + 2)) (h .n)
 
 unfoldable pub importOrder : ImportHour → ℕ → Verdict
-importOrder h k = unless (eqZ (h .hour) (pos k)) 3 1
+importOrder h k = unless (eqZ (h .hour) (pos k)) ORDER 1
 
 unfoldable pub importSeconds : ImportHour → Verdict
-importSeconds h = unless (eqZ (sumTo (λ i. curtailed h i .s .0) (h .n)) (pos 3600)) 5 0
+importSeconds h = unless (eqZ (sumTo (λ i. curtailed h i .s .0) (h .n)) (pos 3600)) SECONDS 0
 
 -- the block at place k of the day
 abbrev pub importFault : ImportHour → ℕ → Verdict
@@ -119,7 +119,7 @@ pub data ImportReply : Type 0 where
 -- the grains of all hours become cents once
 abbrev pub settled : (name : ℤ) → (surplus : Bool) → Parts → ImportReply
 settled name surplus (stoppedIn hour number place) = refused number (inHour hour) place
-settled name true (sum grains) = refused 3 outside 0
+settled name true (sum grains) = refused ORDER outside 0
 settled name false (sum grains) = paid name grains (centsOf grains)
 
 -- ---- what the code gives back, in these words
@@ -131,7 +131,7 @@ worthTold (worth.Refused check) = stopped (numberOf check) (placeOf check)
 abbrev pub importFaultTold : ImportFault → ImportReply
 importFaultTold (spot.Head check) = refused (numberOf check) outside (placeOf check)
 importFaultTold (spot.Block hour check) = refused (numberOf check) (inHour hour) (placeOf check)
-importFaultTold spot.Surplus = refused 3 outside 0
+importFaultTold spot.Surplus = refused ORDER outside 0
 
 abbrev pub importTold : ImportAnswer → ImportReply
 importTold (answer.Paid name grains cents) = paid name (grains .0) (cents .0)

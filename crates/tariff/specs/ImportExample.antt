@@ -22,7 +22,6 @@ use Rattle.tariff.specs.Import.{
   importSum,
   part,
   importPart,
-  sum,
   stoppedIn,
   partsTo,
   paid,

@@ -9,4 +9,5 @@ pub mod Contributions
 pub mod Hour
 pub mod Demand
 pub mod Import
+pub mod ImportDemand
 pub mod ImportExample

@@ -13,16 +13,41 @@ pub data Reply : Type 0 where
   paid : (sum cents : ℤ) → Reply
   refused : (number place : ℕ) → Reply
 
--- the table's numbers and places, for each case of the code's enums
+-- ---- the table: each check's number, and the number and place for each case of the code's enum
+
+abbrev pub FORM : ℕ
+FORM = 1
+
+abbrev pub RANGE : ℕ
+RANGE = 2
+
+abbrev pub ORDER : ℕ
+ORDER = 3
+
+abbrev pub CURVE : ℕ
+CURVE = 4
+
+abbrev pub SECONDS : ℕ
+SECONDS = 5
+
+abbrev pub DERATE : ℕ
+DERATE = 6
+
+abbrev pub REACH : ℕ
+REACH = 7
+
+abbrev pub ROOM : ℕ
+ROOM = 8
+
 abbrev pub numberOf : Check → ℕ
-numberOf (Form line) = 1
-numberOf (Range line) = 2
-numberOf Order = 3
-numberOf (Curve line) = 4
-numberOf Seconds = 5
-numberOf (Derate interval) = 6
-numberOf (Reach interval) = 7
-numberOf Room = 8
+numberOf (Form line) = FORM
+numberOf (Range line) = RANGE
+numberOf Order = ORDER
+numberOf (Curve line) = CURVE
+numberOf Seconds = SECONDS
+numberOf (Derate interval) = DERATE
+numberOf (Reach interval) = REACH
+numberOf Room = ROOM
 
 abbrev pub placeOf : Check → ℕ
 placeOf (Form line) = line
@@ -34,6 +59,7 @@ placeOf (Derate interval) = interval
 placeOf (Reach interval) = interval
 placeOf Room = 0
 
+-- an answer in these words
 abbrev pub told : Answer → Reply
 told (Paid sum cents) = paid (sum .0) (cents .0)
 told (Refused check) = refused (numberOf check) (placeOf check)

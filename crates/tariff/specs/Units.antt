@@ -1,5 +1,5 @@
 -- "Units": kilowatts, cents per MWh and grains are types of their own in the code. Here each is its whole number.
-use Prim.Native.Nat.{ℕ, _/_}
+use Prim.Native.Nat.{_/_}
 use lib.IntN.{ℤ, pos, _*ℤ_}
 use Rattle.tariff.specs.declared.Kw.{Kw}
 use Rattle.tariff.specs.declared.Price.{Price}

@@ -1,5 +1,7 @@
 // The words of the settlement: units, curves, an hour's record, and what a call gives back. The rules themselves stand in
 // specs/, a file for each section of document 01.
+ghost use mathlib.Core.Path.{_≡_};
+ghost use Rattle.tariff.specs.Reply.{numberOf, placeOf};
 
 // Power in whole kilowatts. Withdrawal is negative.
 pub struct Kw(pub i64);
@@ -106,6 +108,37 @@ pub enum Check {
     Derate(usize),
     Reach(usize),
     Room,
+}
+
+// The number of a check in document 01's table, and its place.
+pub fn number_of(check: Check) -> u64
+    ensures { λ r. ⌜ r ≡ numberOf check ⌝ }
+{
+    match check {
+        Check::Form(_) => 1,
+        Check::Range(_) => 2,
+        Check::Order => 3,
+        Check::Curve(_) => 4,
+        Check::Seconds => 5,
+        Check::Derate(_) => 6,
+        Check::Reach(_) => 7,
+        Check::Room => 8,
+    }
+}
+
+pub fn place_of(check: Check) -> usize
+    ensures { λ r. ⌜ r ≡ placeOf check ⌝ }
+{
+    match check {
+        Check::Form(line) => line,
+        Check::Range(line) => line,
+        Check::Order => 1,
+        Check::Curve(line) => line,
+        Check::Seconds => 0,
+        Check::Derate(interval) => interval,
+        Check::Reach(interval) => interval,
+        Check::Room => 0,
+    }
 }
 
 // What a call gives back.

@@ -35,7 +35,7 @@ pub part-byte : (s : List ℕ) (at n j : ℕ) → at + n ≤ length s → j < n
 part-byte s at n j h k =
     getD-take (at + n - at) (drop at s) j 0 (omega arith) ∙ getD-drop at s j 0 ∙ inside-same s (at + j) 0 256 (omega arith)
 
-either-way : (b : Bool) → (if b then Wrong else Wrong) ≡ Wrong
+pub either-way : (b : Bool) → (if b then Wrong else Wrong) ≡ Wrong
 either-way true = refl
 either-way false = refl
 

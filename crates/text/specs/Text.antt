@@ -1,5 +1,4 @@
 -- A text is a list of bytes. Past its end stands 256, which is no byte.
-use mathlib.Core.Bool.{Bool, true, false}
 use mathlib.Core.List as L
 use mathlib.Core.List.{List}
 use lib.Dec.{eqb}

@@ -1,17 +1,17 @@
 -- A number below zero, one more, and the sign turned: each fits, and the last is one less than the magnitude.
-use mathlib.Core.Path.{_≡_, refl, sym, ap, _∙_}
-use mathlib.Core.Bool.{Bool, true, false}
-use Prim.Native.Nat.{ℕ, zero, suc, _+_, _^_, _<_, _≤_}
+use mathlib.Core.Path.{_≡_, refl, ap, _∙_}
+use mathlib.Core.Bool.{true, false}
+use Prim.Native.Nat.{ℕ, _+_, _^_, _<_}
 use native.Mathlib.Numerals.{add-one}
 use native.Mathlib.Omega.{arith}
-use lib.Dec.{T, lit<}
+use lib.Dec.{T}
 use lib.IntN.{ℤ, pos, negsuc, negℤ, natAbs, _+ℤ_, _-ℤ_}
 use lib.Signed.{ltZ, mag, nonNeg}
 use mir.Syntax.{w64}
 use mir.Val.{Fits, SFits}
-use Rattle.exact.specs.Whole.{over, under, Within}
+use Rattle.exact.specs.Whole.{over}
 use Rattle.exact.proofs.Parts.{arithℤ, add-parts, less-parts, neg-over, neg-under, lt-true, lt-false}
-use Rattle.exact.proofs.Bits.{held, Is, plain, back, fits, is-add, is-less, literal}
+use Rattle.exact.proofs.Bits.{held, Is, back, fits}
 use Rattle.exact.proofs.Calls.{handed}
 
 module _ (n : ℕ) (f : n < 2 ^ 63) where
@@ -56,7 +56,10 @@ turns (negsuc n) f h =
       same = rw (e, add-one);
     }
 
--- v is not
+-- z is not, as bits without a sign
+pub natural : (z : ℤ) → mag z < 2 ^ 63 → ltZ z (pos 0) ≡ false → T (nonNeg z) × Fits w64 (natAbs z) × (natAbs z ≡ over z)
+natural (pos n) f h = (tt, record { fits = omega arith }, refl)
+natural (negsuc n) f h = absurd (let u = lt-false (negsuc n) (pos 0) h in omega arith)
+
 pub stays : (v : ℤ) → mag v < 2 ^ 63 → ltZ v (pos 0) ≡ false → T (nonNeg (held v)) × Fits w64 (natAbs (held v))
-stays (pos n) f h = rw (handed (pos n) f) (tt, record { fits = omega arith })
-stays (negsuc n) f h = absurd (let u = lt-false (negsuc n) (pos 0) h in omega arith)
+stays v f h = rw (handed v f) (let n = natural v f h in (n .0, n .1))

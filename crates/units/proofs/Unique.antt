@@ -9,8 +9,8 @@ use Rattle.units.proofs.kw_min.Reads as kw-min
 use Rattle.units.proofs.kw_max.Reads as kw-max
 use Rattle.units.proofs.price_or_zero.Reads as price-or-zero
 use Rattle.units.proofs.move_or_zero.Reads as move-or-zero
-use Rattle.units.proofs.grains_or_loss.Reads as grains-or-loss
-use Rattle.units.proofs.grains_or_zero.Reads as grains-or-zero
+use Rattle.units.proofs.loss_or_zero.Reads as loss-or-zero
+use Rattle.units.proofs.gain_or_zero.Reads as gain-or-zero
 use Rattle.units.proofs.cents_of.Reads as cents-of
 use Rattle.units.proofs.lies_in.Reads as lies-in
 use Rattle.units.proofs.magnitude.Reads as magnitude
@@ -36,11 +36,11 @@ one-price-or-zero κ a r s u v p q = ap price (one (r .0) (s .0) p q)
 pub one-move-or-zero : OneReply move-or-zero.Post
 one-move-or-zero κ a r s u v p q = ap movePrice (one (r .0) (s .0) p q)
 
-pub one-grains-or-loss : OneReply grains-or-loss.Post
-one-grains-or-loss κ a r s u v p q = ap grains (one (r .0) (s .0) p q)
+pub one-loss-or-zero : OneReply loss-or-zero.Post
+one-loss-or-zero κ a r s u v p q = ap grains (one (r .0) (s .0) p q)
 
-pub one-grains-or-zero : OneReply grains-or-zero.Post
-one-grains-or-zero κ a r s u v p q = ap grains (one (r .0) (s .0) p q)
+pub one-gain-or-zero : OneReply gain-or-zero.Post
+one-gain-or-zero κ a r s u v p q = ap grains (one (r .0) (s .0) p q)
 
 pub one-cents-of : OneReply cents-of.Post
 one-cents-of κ a r s u v p q = ap cents (one (r .0) (s .0) p q)

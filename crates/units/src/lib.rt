@@ -1,6 +1,6 @@
 // Comparisons and choices of the units, for any values: each answers as its definition says and asks nothing of its caller.
 ghost use mathlib.Core.Path.{_≡_};
-ghost use lib.IntN.{ℤ, pos, natAbs};
+ghost use lib.IntN.{pos, natAbs};
 ghost use lib.Signed.{ltZ, leZ};
 ghost use Rattle.exact.specs.Whole.{minℤ, maxℤ, eqZ};
 ghost use Rattle.tariff.specs.Units.{centsOf};
@@ -54,14 +54,14 @@ pub fn move_or_zero(p: MovePrice) -> MovePrice
 }
 
 // What an upper branch takes: a loss, or nothing.
-pub fn grains_or_loss(g: Grains) -> Grains
+pub fn loss_or_zero(g: Grains) -> Grains
     ensures { λ r. ⌜ r .0 ≡ minℤ (g .0) (pos 0) ⌝ }
 {
     if g.0 < 0 { g } else { Grains(0) }
 }
 
 // What an import's hour gives: a gain, or nothing.
-pub fn grains_or_zero(g: Grains) -> Grains
+pub fn gain_or_zero(g: Grains) -> Grains
     ensures { λ r. ⌜ r .0 ≡ maxℤ (g .0) (pos 0) ⌝ }
 {
     if g.0 < 0 { Grains(0) } else { g }

@@ -1,7 +1,7 @@
 -- `engine::copy_out` writes the first `n` contributions to the front of the row: before entry i those before i stand there.
 use mathlib.Core.Path.{_≡_, refl}
 use mathlib.Core.List.{_++_}
-use Prim.Native.Nat.{_+_, _-_, _≤_}
+use Prim.Native.Nat.{_-_, _≤_}
 use native.Mathlib.Omega.{arith}
 use lib.ListN.{length, take, drop, length-set}
 use Rattle.exact.proofs.Calls.{handed}

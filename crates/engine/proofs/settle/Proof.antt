@@ -1,5 +1,5 @@
 -- `settle` answers as the checks say, in their order, and writes the row only where the hour is paid.
-use mathlib.Core.Path.{_≡_, ap}
+use mathlib.Core.Path.{ap}
 use borrow.Author.Needs.{needs}
 use Rattle.tariff.specs.Reply.{shown}
 use Rattle.engine.proofs.Paid.{checks-refuse, room-refuses, pays}

@@ -5,7 +5,7 @@ use native.Mathlib.Omega.{arith}
 use borrow.Author.Needs.{needs}
 use lib.ListN.{length}
 use Rattle.intake.specs.declared.Intake.{Intake}
-use Rattle.intake.proofs.Row.{kept-within}
+use Rattle.intake.proofs.Row.{kept-within, counts}
 use Rattle.intake.proofs.take_in.Statement.{statement}
 use Rattle.intake.proofs.take_in.Tie as tie
 
@@ -34,7 +34,7 @@ same-length : tie.Need-same-length Inv-loop μ-loop
 same-length c = search needs
 
 returns : tie.Need-returns Inv-loop μ-loop
-returns c = search needs
+returns c = counts _ _ (search needs)
 
 slice-aggregate-count : tie.Need-slice-aggregate-count Inv-loop μ-loop
 slice-aggregate-count c = search needs
@@ -58,7 +58,7 @@ returns-2 : tie.Need-returns-2 Inv-loop μ-loop
 returns-2 c =
     let k = c .before .before .before .before .before .before in
     let l = k .before .before .before .before .before .before .before .before .before .before .loop in
-    kept-within (l .row) (k .keep .last .0) (l .i) _ _ (k .keep .ensures .0) (search needs) (l .inv .2)
+    counts _ _ (kept-within (l .row) (k .keep .last .0) (l .i) _ _ (k .keep .ensures .0) (search needs) (l .inv .2))
 
 sub-turns : tie.Need-sub-turns Inv-loop μ-loop
 sub-turns c = search needs
@@ -76,7 +76,7 @@ same-length-3 : tie.Need-same-length-3 Inv-loop μ-loop
 same-length-3 c = search needs
 
 returns-3 : tie.Need-returns-3 Inv-loop μ-loop
-returns-3 c = search needs
+returns-3 c = counts _ _ (search needs)
 
 pub take-in-spec : {M : Type 1} → statement M
 take-in-spec =

@@ -31,14 +31,14 @@ curtailed-sum-requires c κs =
     let p = import-clear-says (c .before .before .before .args .h) (c .before .before .before .args .k) (sound c) in
     (p .0, p .1)
 
-grains-or-zero-requires : tie.Need-grains-or-zero-requires
-grains-or-zero-requires c κs = search needs
+gain-or-zero-requires : tie.Need-gain-or-zero-requires
+gain-or-zero-requires c κs = search needs
 
 returns-2 : tie.Need-returns-2
 unfolding importPart
 returns-2 c =
     let s = c .before .before .before .before .before in
-    rw (sound (c .before .before), c .grains-or-zero .ensures, c .before .curtailed-sum .ensures, handed (s .args .cts) (s .fits .cts .sfits))
+    rw (sound (c .before .before), c .gain-or-zero .ensures, c .before .curtailed-sum .ensures, handed (s .args .cts) (s .fits .cts .sfits))
 
 pub import-part-spec : {M : Type 1} → statement M
 import-part-spec =
@@ -49,5 +49,5 @@ import-part-spec =
     returns
     enum-told
     curtailed-sum-requires
-    grains-or-zero-requires
+    gain-or-zero-requires
     returns-2)

@@ -1,5 +1,4 @@
 -- `magnitude` meets its contract: below zero it turns the sign of one more, so that the least number fits too.
-use mathlib.Core.Path.{_≡_}
 use mathlib.Core.Bool.{true, false}
 use borrow.Author.Needs.{needs}
 use lib.Dec.{lit<}

@@ -2,7 +2,7 @@
 use mathlib.Core.Path.{_≡_, sym, _∙_}
 use mathlib.Core.Bool.{Bool, true, false, _&&_, and-false}
 use mathlib.Core.List.{List}
-use Prim.Native.Nat.{ℕ, _+_, _-_, _<_, _≤_}
+use Prim.Native.Nat.{ℕ, _-_, _<_, _≤_}
 use native.Mathlib.Omega.{arith}
 use lib.IntN.{pos}
 use lib.ListN.{getD}
@@ -13,7 +13,7 @@ use Rattle.tariff.specs.declared.Kw.{Kw}
 use Rattle.tariff.specs.declared.Price.{Price}
 use Rattle.tariff.specs.Units.{kw, price}
 use Rattle.tariff.specs.Sheet.{isPower, isPrice, allTo, stepInRange, curveInRange}
-use Rattle.tariff.proofs.Tests.{all-none, all-more, all-not}
+use Rattle.tariff.proofs.Tests.{all-none, all-next, all-not}
 use Rattle.checks.proofs.ranges.curve_in_range.Statement.{statement}
 use Rattle.checks.proofs.ranges.curve_in_range.Tie as tie
 
@@ -38,9 +38,6 @@ module _ (v : Curve) where
   all-are : (j : ℕ) → j ≡ v .n → isPower (v .start .0) ≡ true → allTo (stepInRange v) j ≡ true → true ≡ curveInRange v
   unfolding curveInRange
   all-are j same e f = rw (e, ← same, f)
-
-one-more : (f : ℕ → Bool) (j : ℕ) → allTo f j ≡ true → f j ≡ true → allTo f (j + 1) ≡ true
-one-more f j e h = rw (all-more, e, h)
 
 is-power-requires : tie.Need-is-power-requires Inv-loop μ-loop
 is-power-requires c κs = search needs
@@ -80,7 +77,7 @@ loop-less c = search needs
 loop-again : tie.Need-loop-again Inv-loop μ-loop
 loop-again c =
     let l = c .before .before .before .before .before .loop in
-    (search needs, one-more _ (l .j) (l .inv .1) (sym (c .before .step-in-range .ensures) ∙ not-false _ (c .if2 .left)))
+    (search needs, all-next _ (l .j) (l .inv .1) (sym (c .before .step-in-range .ensures) ∙ not-false _ (c .if2 .left)))
 
 returns-3 : tie.Need-returns-3 Inv-loop μ-loop
 returns-3 c =

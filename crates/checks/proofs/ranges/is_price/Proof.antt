@@ -1,8 +1,7 @@
 -- `is_price` is the test of its range.
 use mathlib.Core.Path.{_∙_, ap}
-use mir.Syntax.{w64}
-use mir.Facts.{toZ-ofZ}
 use borrow.Author.Needs.{needs}
+use Rattle.exact.proofs.Calls.{handed}
 use Rattle.tariff.specs.Sheet.{isPrice}
 use Rattle.checks.proofs.ranges.is_price.Statement.{statement}
 use Rattle.checks.proofs.ranges.is_price.Tie as tie
@@ -11,7 +10,7 @@ lies-in-requires : tie.Need-lies-in-requires
 lies-in-requires c κs = search needs
 
 returns : tie.Need-returns
-returns c = c .lies-in .ensures ∙ ap isPrice (toZ-ofZ {w = w64} {z = c .before .before .args .p .0} (record { sfits = c .before .struct-told .given .0 .1 }))
+returns c = c .lies-in .ensures ∙ ap isPrice (handed (c .before .before .args .p .0) (c .before .struct-told .given .0 .1))
 
 pub is-price-spec : {M : Type 1} → statement M
 is-price-spec = tie.close (tie.spec lies-in-requires returns)

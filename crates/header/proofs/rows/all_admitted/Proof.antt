@@ -6,8 +6,8 @@ use native.Mathlib.Omega.{arith}
 use borrow.Author.Needs.{needs}
 use Rattle.exact.proofs.Calls.{passes, fails}
 use Rattle.tariff.specs.Sheet.{allTo}
-use Rattle.tariff.proofs.Tests.{all-none, all-not}
-use Rattle.header.proofs.Digits.{all-next, digit-of, admits, admits-is, admitted-inside}
+use Rattle.tariff.proofs.Tests.{all-none, all-next, all-not}
+use Rattle.header.proofs.Digits.{digit-of, admits, admits-is, admitted-inside}
 use Rattle.header.proofs.rows.all_admitted.Statement.{statement}
 use Rattle.header.proofs.rows.all_admitted.Tie as tie
 

@@ -5,9 +5,9 @@ use Prim.Native.Nat.{_+_, _-_, _≤_}
 use native.Mathlib.Omega.{arith}
 use borrow.Author.Needs.{needs}
 use Rattle.tariff.specs.Sheet.{allTo}
-use Rattle.tariff.proofs.Tests.{all-none}
+use Rattle.tariff.proofs.Tests.{all-none, all-next}
 use Rattle.text.proofs.Numbers.{digit-inside}
-use Rattle.header.proofs.Digits.{all-next, digit-of, isDigit, digit-is, no-digit, digits-end}
+use Rattle.header.proofs.Digits.{digit-of, isDigit, digit-is, no-digit, digits-end}
 use Rattle.header.proofs.rows.digits_at.Statement.{statement}
 use Rattle.header.proofs.rows.digits_at.Tie as tie
 

@@ -9,10 +9,10 @@ use borrow.Author.Needs.{needs}
 use Rattle.exact.proofs.Calls.{passes, fails}
 use Rattle.tariff.specs.Import.{isMark, isName}
 use Rattle.text.specs.declared.Next.the-variants.{At}
-use Rattle.lines.specs.Line.{lineFeed, lineAt}
+use Rattle.lines.specs.Line.{lineFeed}
 use Rattle.lines.proofs.Fill.{held-is}
 use Rattle.lines.proofs.Lines.{FieldsRead, fields-read, line-is}
-use Rattle.imports.specs.Import.{nameIn, ctsIn}
+use Rattle.imports.specs.Import.{headLine, nameIn, ctsIn}
 use Rattle.imports.proofs.Heads.{head-line1, head-line2, head-range, head-said}
 use Rattle.imports.proofs.head.read_head.Statement.{statement}
 use Rattle.imports.proofs.head.read_head.Tie as tie
@@ -24,7 +24,7 @@ text c = c .before .before .before .before .args .s .now
 fields1 : (c : tie.After-line-end) → FieldsRead 36 2 (text c) 0 (c .before .before .fields-at .result)
 fields1 c = fields-read 36 2 _ 0 _ refl (c .before .before .fields-at .ensures)
 
-line1 : (c : tie.After-line-end) → lineAt 36 2 (text c) 0 ≡ c .line-end .result
+line1 : (c : tie.After-line-end) → headLine (text c) ≡ c .line-end .result
 line1 c = line-is 36 2 _ 0 _ _ (fields1 c .next) (c .line-end .ensures)
 
 module _ (c : tie.After-known-told) where
@@ -34,7 +34,7 @@ module _ (c : tie.After-known-told) where
   abbrev second : ℕ
   second = c .before .second .given .0 .0
 
-  line2-at : lineAt 36 2 (text in1) 0 ≡ At second
+  line2-at : headLine (text in1) ≡ At second
   line2-at = line1 in1 ∙ c .before .second .given .1
 
 module _ (c : tie.After-known-told2) where

@@ -35,22 +35,22 @@ returns : tie.Need-returns
 unfolding importGrains
 returns c h den dec = rw (fails (counted (c .before) h den) (c .if1 .taken))
 
-kw-less-requires : tie.Need-kw-less-requires
-kw-less-requires c κs = let p = c .before .before .pre in (p .0, p .2)
+kw-minus-requires : tie.Need-kw-minus-requires
+kw-minus-requires c κs = let p = c .before .before .pre in (p .0, p .2)
 
 price-or-zero-requires : tie.Need-price-or-zero-requires
 price-or-zero-requires c κs = search needs
 
-price-less-requires : tie.Need-price-less-requires
-price-less-requires c κs =
+price-minus-requires : tie.Need-price-minus-requires
+price-minus-requires c κs =
     let p = c .before .before .before .before .pre in
     (p .3, rw (c .price-or-zero .ensures) (within-max (p .1) (within-zero 1000000)))
 
 product-requires : tie.Need-product-requires
 product-requires c κs =
     let p = c .before .before .before .before .before .pre in (
-      rw (c .before .before .kw-less .ensures) (within-less (p .0) (p .2)),
-      rw (c .price-less .ensures, c .before .price-or-zero .ensures) (within-less (p .3) (within-max (p .1) (within-zero 1000000))),
+      rw (c .before .before .kw-minus .ensures) (within-less (p .0) (p .2)),
+      rw (c .price-minus .ensures, c .before .price-or-zero .ensures) (within-less (p .3) (within-max (p .1) (within-zero 1000000))),
       p .4,
     )
 
@@ -66,8 +66,8 @@ curtailed-part-spec =
     (tie.spec
     is-counted-requires
     returns
-    kw-less-requires
+    kw-minus-requires
     price-or-zero-requires
-    price-less-requires
+    price-minus-requires
     product-requires
     returns-2)

@@ -26,8 +26,8 @@ remainders-requires c κs =
 total-requires-2 : tie.Need-total-requires-2
 total-requires-2 c κs = small (c .before)
 
-cut-less-requires : tie.Need-cut-less-requires
-cut-less-requires c κs =
+cut-minus-requires : tie.Need-cut-minus-requires
+cut-minus-requires c κs =
     let s = c .before .before .before .before in
     low-within (s .args .pot) (s .args .red .0) (s .pre .0) (s .pre .1) _ (c .before .before .floors .ensures) _ (c .total2 .ensures)
 
@@ -96,7 +96,7 @@ returns c =
     let m = c .before .before .before .before .before .before .before .before .before .before .before .before .before .before .before .before .before .before .before .before in
     let s = m .before .before .before .before .before in
     let each = share-is (s .args .pot) (s .args .red .0) (s .pre .0) (s .pre .1) _ (m .before .before .before .floors .ensures) _ _ _
-    (m .before .before .remainders .ensures) (m .before .total2 .ensures) (m .cut-less .ensures) in
+    (m .before .before .remainders .ensures) (m .before .total2 .ensures) (m .cut-minus .ensures) in
     cuts-same (share (cutAt (s .args .pot)) (s .args .red .0))
     (each 0 (omega arith) _ _ (c .before .before .before .before .before .before .before .before .before .before .before .before .before .before .before .before .before .rank-of .ensures) (c .before .before .before .before .before .before .before .before .before .before .before .before .before .before .before .before .share-of .ensures))
     (each 1 (omega arith) _ _ (c .before .before .before .before .before .before .before .before .before .before .before .before .before .rank-of2 .ensures) (c .before .before .before .before .before .before .before .before .before .before .before .before .share-of2 .ensures))
@@ -112,7 +112,7 @@ shares-spec =
     floors-requires
     remainders-requires
     total-requires-2
-    cut-less-requires
+    cut-minus-requires
     array-copy-out-share-of
     array-copy-out-rank-of
     rank-of-requires

@@ -5,8 +5,8 @@ use Rattle.tariff.specs.Contributions.{movement}
 use Rattle.intervals.proofs.others.movement_part.Statement.{statement}
 use Rattle.intervals.proofs.others.movement_part.Tie as tie
 
-move-less-requires : tie.Need-move-less-requires
-move-less-requires c κs = search needs
+move-minus-requires : tie.Need-move-minus-requires
+move-minus-requires c κs = search needs
 
 move-or-zero-requires : tie.Need-move-or-zero-requires
 move-or-zero-requires c κs = search needs
@@ -15,7 +15,7 @@ moved-requires : tie.Need-moved-requires
 moved-requires c κs =
     let p = c .before .before .pre in (
       p .0,
-      rw (c .move-or-zero .ensures, c .before .move-less .ensures) (within-max (within-less (p .1) (p .2)) (within-zero 2000000)),
+      rw (c .move-or-zero .ensures, c .before .move-minus .ensures) (within-max (within-less (p .1) (p .2)) (within-zero 2000000)),
     )
 
 returns : tie.Need-returns
@@ -24,4 +24,4 @@ returns c = cc
 
 pub movement-part-spec : {M : Type 1} → statement M
 movement-part-spec =
-    tie.close (tie.spec move-less-requires move-or-zero-requires moved-requires returns)
+    tie.close (tie.spec move-minus-requires move-or-zero-requires moved-requires returns)

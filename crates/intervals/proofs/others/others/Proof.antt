@@ -106,8 +106,8 @@ grains-plus-requires-2 c κs = (within-lit tt (two-within c), within-lit tt (r2-
 grains-plus-requires-3 : tie.Need-grains-plus-requires-3
 grains-plus-requires-3 c κs = (within-lit tt (three-within c), within-lit tt (r3-within (c .before .before)))
 
-grains-less-requires : tie.Need-grains-less-requires
-grains-less-requires c κs = (
+grains-minus-requires : tie.Need-grains-minus-requires
+grains-minus-requires c κs = (
   within-lit tt (four-within (c .before)),
   rw (c .movement-part .ensures) (within-lit tt (parts (start (c .before .before .before .before)) .mv)),
 )
@@ -116,7 +116,7 @@ returns : tie.Need-returns
 unfolding otherThanEnergy
 returns c =
     rw (
-      c .grains-less .ensures,
+      c .grains-minus .ensures,
       c .before .movement-part .ensures,
       c .before .before .grains-plus3 .ensures,
       c .before .before .before .grains-plus2 .ensures,
@@ -144,5 +144,5 @@ others-spec =
     grains-plus-requires-2
     grains-plus-requires-3
     movement-part-requires
-    grains-less-requires
+    grains-minus-requires
     returns)

@@ -6,25 +6,25 @@ use Rattle.tariff.specs.Contributions.{regulation}
 use Rattle.intervals.proofs.others.regulation_part.Statement.{statement}
 use Rattle.intervals.proofs.others.regulation_part.Tie as tie
 
-kw-less-requires : tie.Need-kw-less-requires
-kw-less-requires c κs = search needs
+kw-minus-requires : tie.Need-kw-minus-requires
+kw-minus-requires c κs = search needs
 
 below-requires : tie.Need-below-requires
 below-requires c κs = search needs
 
-price-less-requires : tie.Need-price-less-requires
-price-less-requires c κs = search needs
+price-minus-requires : tie.Need-price-minus-requires
+price-minus-requires c κs = search needs
 
 product-requires : tie.Need-product-requires
 product-requires c κs =
     let p = c .before .before .before .before .pre in (
-      rw (c .before .before .before .kw-less .ensures) (within-less (p .0) (p .1)),
-      rw (c .price-less .ensures) (within-less (p .2) (p .3)),
+      rw (c .before .before .before .kw-minus .ensures) (within-less (p .0) (p .1)),
+      rw (c .price-minus .ensures) (within-less (p .2) (p .3)),
       p .5,
     )
 
-price-less-requires-2 : tie.Need-price-less-requires-2
-price-less-requires-2 c κs = search needs
+price-minus-requires-2 : tie.Need-price-minus-requires-2
+price-minus-requires-2 c κs = search needs
 
 price-or-zero-requires : tie.Need-price-or-zero-requires
 price-or-zero-requires c κs = search needs
@@ -32,8 +32,8 @@ price-or-zero-requires c κs = search needs
 product-requires-2 : tie.Need-product-requires-2
 product-requires-2 c κs =
     let p = c .before .before .before .before .before .pre in (
-      rw (c .before .before .before .before .kw-less .ensures) (within-less (p .0) (p .1)),
-      rw (c .price-or-zero .ensures, c .before .price-less2 .ensures) (within-max (within-less (p .2) (p .4)) (within-zero 2000000)),
+      rw (c .before .before .before .before .kw-minus .ensures) (within-less (p .0) (p .1)),
+      rw (c .price-or-zero .ensures, c .before .price-minus2 .ensures) (within-max (within-less (p .2) (p .4)) (within-zero 2000000)),
       p .5,
     )
 
@@ -49,11 +49,11 @@ pub regulation-part-spec : {M : Type 1} → statement M
 regulation-part-spec =
     tie.close
     (tie.spec
-    kw-less-requires
+    kw-minus-requires
     below-requires
-    price-less-requires
+    price-minus-requires
     product-requires
-    price-less-requires-2
+    price-minus-requires-2
     price-or-zero-requires
     product-requires-2
     returns

@@ -6,27 +6,27 @@ use Rattle.tariff.specs.Contributions.{reserve}
 use Rattle.intervals.proofs.others.reserve_part.Statement.{statement}
 use Rattle.intervals.proofs.others.reserve_part.Tie as tie
 
-kw-less-requires : tie.Need-kw-less-requires
-kw-less-requires c κs = search needs
+kw-minus-requires : tie.Need-kw-minus-requires
+kw-minus-requires c κs = search needs
 
 below-requires : tie.Need-below-requires
 below-requires c κs = search needs
 
-price-less-requires : tie.Need-price-less-requires
-price-less-requires c κs = search needs
+price-minus-requires : tie.Need-price-minus-requires
+price-minus-requires c κs = search needs
 
 product-requires : tie.Need-product-requires
 product-requires c κs =
     let p = c .before .before .before .before .pre in (
-      rw (c .before .before .before .kw-less .ensures) (within-less (p .0) (p .1)),
-      rw (c .price-less .ensures) (within-less (p .2) (p .3)),
+      rw (c .before .before .before .kw-minus .ensures) (within-less (p .0) (p .1)),
+      rw (c .price-minus .ensures) (within-less (p .2) (p .3)),
       p .4,
     )
 
 product-requires-2 : tie.Need-product-requires-2
 product-requires-2 c κs =
     let p = c .before .before .before .pre in
-    (rw (c .before .before .kw-less .ensures) (within-less (p .0) (p .1)), within-lit tt (p .2), p .4)
+    (rw (c .before .before .kw-minus .ensures) (within-less (p .0) (p .1)), within-lit tt (p .2), p .4)
 
 returns : tie.Need-returns
 unfolding reserve
@@ -40,9 +40,9 @@ pub reserve-part-spec : {M : Type 1} → statement M
 reserve-part-spec =
     tie.close
     (tie.spec
-    kw-less-requires
+    kw-minus-requires
     below-requires
-    price-less-requires
+    price-minus-requires
     product-requires
     product-requires-2
     returns

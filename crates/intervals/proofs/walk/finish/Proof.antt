@@ -8,13 +8,13 @@ use Rattle.intervals.proofs.Tasks.{finished-lower, finished-upper, sold
 use Rattle.intervals.proofs.walk.finish.Statement.{statement}
 use Rattle.intervals.proofs.walk.finish.Tie as tie
 
-kw-less-requires : tie.Need-kw-less-requires
-kw-less-requires c κs = search needs
+kw-minus-requires : tie.Need-kw-minus-requires
+kw-minus-requires c κs = search needs
 
 product-requires : tie.Need-product-requires
 product-requires c κs =
     let f = c .before .pre .0 in
-    (rw (c .kw-less .ensures) (within-less (f .from) (f .limit)), within-lit tt (f .pen), f .s)
+    (rw (c .kw-minus .ensures) (within-less (f .from) (f .limit)), within-lit tt (f .pen), f .s)
 
 signed-cost-requires : tie.Need-signed-cost-requires
 signed-cost-requires c κs = search needs
@@ -22,7 +22,7 @@ signed-cost-requires c κs = search needs
 grains-plus-requires : tie.Need-grains-plus-requires
 grains-plus-requires c κs =
     let s = c .before .before .before in (
-      rw (c .before .product .ensures, c .before .before .kw-less .ensures) (within-lit tt (sold-within (s .args .t) (s .args .cost .0) (s .pre .0) (s .pre .1))),
+      rw (c .before .product .ensures, c .before .before .kw-minus .ensures) (within-lit tt (sold-within (s .args .t) (s .args .cost .0) (s .pre .0) (s .pre .1))),
       rw (c .signed-cost .ensures) (within-lit tt (signed-within (s .args .t) (s .args .cost .0) (s .pre .0) (s .pre .1))),
     )
 
@@ -42,12 +42,12 @@ grains-plus-requires-2 : tie.Need-grains-plus-requires-2
 grains-plus-requires-2 c κs =
     (within-lit tt (energy-fits (c .before)), within-lit tt (start (c .before) .pre .0 .others))
 
-grains-or-loss-requires : tie.Need-grains-or-loss-requires
-grains-or-loss-requires c κs = search needs
+loss-or-zero-requires : tie.Need-loss-or-zero-requires
+loss-or-zero-requires c κs = search needs
 
 grains-plus-requires-3 : tie.Need-grains-plus-requires-3
 grains-plus-requires-3 c κs = (
-  rw (c .grains-or-loss .ensures) (within-lit tt (within-min (energy-fits (c .before .before)) (within-zero 7600000000000000))),
+  rw (c .loss-or-zero .ensures) (within-lit tt (within-min (energy-fits (c .before .before)) (within-zero 7600000000000000))),
   within-lit tt (start (c .before .before) .pre .0 .others),
 )
 
@@ -65,12 +65,12 @@ pub finish-spec : {M : Type 1} → statement M
 finish-spec =
     tie.close
     (tie.spec
-    kw-less-requires
+    kw-minus-requires
     product-requires
     signed-cost-requires
     grains-plus-requires
     grains-plus-requires-2
-    grains-or-loss-requires
+    loss-or-zero-requires
     grains-plus-requires-3
     returns
     returns-2)

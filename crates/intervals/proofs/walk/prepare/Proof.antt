@@ -3,7 +3,7 @@ use mathlib.Core.Path.{_≡_, sym, ap, _∙_}
 use mathlib.Core.Bool.{true, false}
 use borrow.Author.Needs.{needs}
 use Rattle.tariff.specs.Eligible.{lags}
-use Rattle.tariff.specs.Derate.{isDerated, reduced}
+use Rattle.tariff.specs.Derate.{exceedsRoom, reduced}
 use Rattle.tariff.proofs.Ranges.{interval-fits}
 use Rattle.tariff.proofs.Reduced.{reduced-within}
 use Rattle.intervals.specs.declared.steps.Prepared.the-variants.{Ready}
@@ -46,7 +46,7 @@ module _ (c : tie.Else2) where
   abbrev start : tie.Start
   start = c .before .before .before .before
 
-  roomy : isDerated (start .args .a) (start .args .v) ≡ false
+  roomy : exceedsRoom (start .args .a) (start .args .v) ≡ false
   roomy = sym (c .before .derate-of .ensures .told) ∙ c .if2 .left
 
   kept : c .before .derate-of .result .schedules ≡ kwFive (reduced (start .args .a) (start .args .v))

@@ -7,14 +7,14 @@ use Rattle.intervals.proofs.walk.signed_cost.Tie as tie
 below-requires : tie.Need-below-requires
 below-requires c κs = search needs
 
-grains-less-requires : tie.Need-grains-less-requires
-grains-less-requires c κs = search needs
+grains-minus-requires : tie.Need-grains-minus-requires
+grains-minus-requires c κs = search needs
 
 returns : tie.Need-returns
-returns c = rw (sym (c .before .before .below .ensures) ∙ c .before .if1 .taken) (c .grains-less .ensures)
+returns c = rw (sym (c .before .before .below .ensures) ∙ c .before .if1 .taken) (c .grains-minus .ensures)
 
 returns-2 : tie.Need-returns-2
 returns-2 c = rw (sym (c .before .below .ensures) ∙ c .if1 .left)
 
 pub signed-cost-spec : {M : Type 1} → statement M
-signed-cost-spec = tie.close (tie.spec below-requires grains-less-requires returns returns-2)
+signed-cost-spec = tie.close (tie.spec below-requires grains-minus-requires returns returns-2)

@@ -1,4 +1,4 @@
--- Two days that differ in their curve lines only: hours whose needed prices agree are answered alike, and added curve changes no paid one.
+-- Two blocks that are the same or differ in their curve lines only are answered alike; and REACH in an hour of a day.
 use mathlib.Core.Path.{_≡_, refl, sym, ap, _∙_}
 use mathlib.Core.Bool.{Bool}
 use mathlib.Core.List.{List}
@@ -10,7 +10,7 @@ use lib.ListN.{replicate}
 use Rattle.tariff.specs.declared.Hour.{Hour}
 use Rattle.tariff.specs.declared.Expected.{Expected}
 use Rattle.tariff.specs.declared.Expected.the-variants.{Says}
-use Rattle.tariff.specs.Reply.{paid, refused, clear}
+use Rattle.tariff.specs.Reply.{paid, refused, REACH, clear}
 use Rattle.tariff.specs.Eligible.{excluded}
 use Rattle.tariff.specs.Demand.{FirstUnpriced, NoFaultTo4, NoFaultTo5, Extends}
 use Rattle.lines.specs.Pieces.{piece}
@@ -20,7 +20,7 @@ use Rattle.sheet.proofs.Apart.{never-read}
 use Rattle.sheet.proofs.BlockDemands.{curves-apart-break-alike, only-needed-prices-of-blocks-matter, block-reach-exactly-when-unpriced, adding-curve-to-a-block-changes-nothing}
 use Rattle.header.specs.Header.{headerFault, marksOf}
 use Rattle.ledger.specs.Day.{bodyOf, dayReply}
-use Rattle.ledger.specs.Demand.{BlocksApart, same, apart, PricedAlike, one, priced}
+use Rattle.ledger.specs.Demand.{Pays, BlocksApart, same, apart, PricedAlike, one, priced}
 use Rattle.ledger.proofs.HourOfDay.{own-block}
 
 -- ---- two blocks that are the same, or differ in their curve lines only
@@ -36,21 +36,22 @@ module _ (s t : List ℕ) (isExcluded : Bool) (expected : Expected) where
   abbrev Same : Type 0
   Same = replyTo (blockOf s) isExcluded expected 30 ≡ replyTo (blockOf t) isExcluded expected 30
 
-  priced-alike : CurvesApart s t → (h g : Hour) → blockOf s ≡ read h → blockOf t ≡ read g → PricedAlike h g isExcluded expected → Same
-  priced-alike o h g x y (one e) = rw (x, y, e)
-  priced-alike o h g x y (priced a b e) = only-needed-prices-of-blocks-matter s t h g isExcluded expected row o x y a b e .0
-
-  curves-alike : CurvesApart s t → ((h g : Hour) → blockOf s ≡ read h → blockOf t ≡ read g → PricedAlike h g isExcluded expected) → Same
-  curves-alike o alike = go (blockOf s) refl (blockOf t) refl
+  -- two blocks that are read, or broken at one line
+  by-reading : BlocksApart s t → (CurvesApart s t → (h g : Hour) → blockOf s ≡ read h → blockOf t ≡ read g → Same) → Same
+  by-reading (same e) f = ap (λ (u : List ℕ). replyTo (blockOf u) isExcluded expected 30) e
+  by-reading (apart o) f = go (blockOf s) refl (blockOf t) refl
     where
       go : (b : Block) → blockOf s ≡ b → (c : Block) → blockOf t ≡ c → Same
       go (broken line) x c y = rw (x, curves-apart-break-alike s t o line x)
       go (read h) x (broken line) y = absurd (never-read (sym (curves-apart-break-alike t s (turned o) line y) ∙ x))
-      go (read h) x (read g) y = priced-alike o h g x y (alike h g x y)
+      go (read h) x (read g) y = f o h g x y
 
   pub blocks-alike : BlocksApart s t → ((h g : Hour) → blockOf s ≡ read h → blockOf t ≡ read g → PricedAlike h g isExcluded expected) → Same
-  blocks-alike (same e) alike = ap (λ (u : List ℕ). replyTo (blockOf u) isExcluded expected 30) e
-  blocks-alike (apart o) alike = curves-alike o alike
+  blocks-alike b alike = by-reading b (λ o h g x y. go o h g x y (alike h g x y))
+    where
+      go : CurvesApart s t → (h g : Hour) → blockOf s ≡ read h → blockOf t ≡ read g → PricedAlike h g isExcluded expected → Same
+      go o h g x y (one e) = rw (x, y, e)
+      go o h g x y (priced c d e) = only-needed-prices-of-blocks-matter s t h g isExcluded expected row o x y c d e .0
 
   pub blocks-extended : BlocksApart s t → (h g : Hour) → blockOf s ≡ read h → blockOf t ≡ read g → (sum cents : ℤ) → NoFaultTo4 g expected
       → Extends (h .da) (g .da) → Extends (h .rt) (g .rt) → replyTo (blockOf s) isExcluded expected 30 ≡ paid sum cents
@@ -58,9 +59,18 @@ module _ (s t : List ℕ) (isExcluded : Bool) (expected : Expected) where
   blocks-extended (same e) h g x y sum cents f da rt p = ap (λ (u : List ℕ). replyTo (blockOf u) isExcluded expected 30) (sym e) ∙ p
   blocks-extended (apart o) h g x y sum cents f da rt p = adding-curve-to-a-block-changes-nothing s t h g isExcluded expected row o x y sum cents f da rt p .0
 
+  pub blocks-added : BlocksApart s t → Pays (replyTo (blockOf s) isExcluded expected 30)
+      → ((h g : Hour) → blockOf s ≡ read h → blockOf t ≡ read g → NoFaultTo4 g expected × Extends (h .da) (g .da) × Extends (h .rt) (g .rt))
+      → Same
+  blocks-added b p longer =
+      by-reading b
+      (λ o h g x y.
+      let l = longer h g x y in
+      p .pays ∙ sym (blocks-extended b h g x y (p .sum) (p .cents) (l .0) (l .1) (l .2) (p .pays)))
+
 -- ---- REACH in an hour of a day
 pub day-reach : (hours : ℕ) (s : List ℕ) → headerFault hours s ≡ clear → (k i : ℕ) (h : Hour) → blockOf (piece k (bodyOf hours s)) ≡ read h
-    → NoFaultTo5 h (Says (pos k))
-    → (dayReply hours s k ≡ refused 7 (i + 1)) ↔ FirstUnpriced h (excluded hours (marksOf hours s) k) i
-day-reach hours s e k i h x f =
-    rw (own-block hours s e k 30 (omega arith)) (block-reach-exactly-when-unpriced (piece k (bodyOf hours s)) h (excluded hours (marksOf hours s) k) (Says (pos k)) 30 i x f)
+    → (dayReply hours s k ≡ refused REACH (i + 1)) ↔ (NoFaultTo5 h (Says (pos k)) × FirstUnpriced h (excluded hours (marksOf hours s) k) i)
+day-reach hours s e k i h x =
+    rw (own-block hours s e k 30 (omega arith))
+    (block-reach-exactly-when-unpriced (piece k (bodyOf hours s)) h (excluded hours (marksOf hours s) k) (Says (pos k)) 30 i x)

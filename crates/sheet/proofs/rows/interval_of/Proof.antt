@@ -1,11 +1,11 @@
--- `block::interval_of` meets its contract: each value of the array is the number that its bits say.
+-- `rows::interval_of` meets its contract: each value of the array is the number that its bits say.
 use mathlib.Core.Path.{ap}
 use borrow.Author.Needs.{needs}
 use lib.Dec.{lit<}
 use Rattle.sheet.specs.Block.{intervalOf}
 use Rattle.lines.proofs.Fill.{held-values}
-use Rattle.sheet.proofs.block.interval_of.Statement.{statement}
-use Rattle.sheet.proofs.block.interval_of.Tie as tie
+use Rattle.sheet.proofs.rows.interval_of.Statement.{statement}
+use Rattle.sheet.proofs.rows.interval_of.Tie as tie
 
 array-copy-out-t5 : tie.Need-array-copy-out-t5
 array-copy-out-t5 c = lit< tt

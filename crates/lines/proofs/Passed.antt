@@ -5,43 +5,33 @@ use mathlib.Core.List.{List}
 use Prim.Native.Nat.{ℕ, zero, suc, _+_, _≤_, _<_}
 use native.Mathlib.Nat.{add-zero, zero-add}
 use native.Mathlib.Omega.{arith}
-use borrow.Author.Tests.{eqb-true, eq-eqb, ne-eqb}
-use lib.Dec.{eqb, lit<}
+use borrow.Author.Tests.{eq-eqb, ne-eqb}
+use lib.Dec.{lit<}
 use lib.ListN.{length, getD, drop}
-use Rattle.exact.specs.Choice.{if_then_else_}
-use Rattle.exact.proofs.Parts.{by-test}
-use Rattle.text.specs.Text.{byteAt, keyAt}
+use Rattle.text.specs.Text.{byteAt}
 use Rattle.text.specs.declared.Next.{Next}
-use Rattle.text.specs.declared.Next.the-variants.{At, Wrong}
+use Rattle.text.specs.declared.Next.the-variants.{At}
 use Rattle.text.proofs.Numbers.{inside-same, byte-inside}
 use Rattle.lines.specs.Keys.{keyOf}
 use Rattle.lines.specs.Line.{andThen, afterFields, lineFeed, lineAt}
 use Rattle.lines.specs.Cut.{emptyIn}
-use Rattle.lines.proofs.Along.{closing, Along, Moved, both, neither, never-at, went, fields-along}
-use Rattle.lines.proofs.Ended.{opens, fields-closed}
+use Rattle.lines.proofs.Along.{closing, Along, never-at, went, unmoved-within, fields-along}
+use Rattle.lines.proofs.Ended.{feed-ends, opens, fields-closed}
 use Rattle.lines.proofs.Cut.{empty-here, empty-later, not-empty}
 
 module _ (s : List ℕ) where
-  -- a line feed that is found
-  feed-ends : (x k : ℕ) → lineFeed s x ≡ At k → (byteAt s x ≡ 10) × (x + 1 ≡ k)
-  unfolding keyAt
-  feed-ends x k =
-      by-test (eqb (byteAt s x) 10) (λ b. (if b then At (x + 1) else Wrong) ≡ At k → (byteAt s x ≡ 10) × (x + 1 ≡ k))
-      (λ h e. (eqb-true (byteAt s x) 10 h, cc))
-      (λ h e. absurd (never-at e))
-
   at-byte : (i : ℕ) → i < length s → byteAt s i ≡ getD s i 0
   at-byte i h = inside-same s i 256 0 h
 
-  -- where a line begins, it is an empty line
+  -- a line feed is an empty line where a line begins
   pub feed-empty : (x k : ℕ) → lineFeed s x ≡ At k → emptyIn true (drop x s) x ≡ At k
   feed-empty x k e =
-      let end = feed-ends x k e in
+      let end = feed-ends s x k e in
       let h = byte-inside s x 10 (end .0) (lit< tt) in
       empty-here s x h true (eq-eqb (getD s x 0) 10 (sym (at-byte x h) ∙ end .0)) refl ∙ ap At (end .1)
 
   -- bytes that are no line feed are passed, and the one behind them
-  pass : (x i : ℕ) (start : Bool) → ((m : ℕ) → m < x → byteAt s (i + m) ≡ 10 → ⊥) → byteAt s (i + x) ≡ 10 → (x ≡ 0 → start ≡ false)
+  pub pass : (x i : ℕ) (start : Bool) → ((m : ℕ) → m < x → byteAt s (i + m) ≡ 10 → ⊥) → byteAt s (i + x) ≡ 10 → (x ≡ 0 → start ≡ false)
       → emptyIn start (drop i s) i ≡ emptyIn true (drop (i + x + 1) s) (i + x + 1)
   pass zero i start none feed begun =
       let here = rw (add-zero i) at feed in
@@ -64,18 +54,14 @@ module _ (s : List ℕ) where
     fields-within : (m x : ℕ) → closing (byteAt s (0 + m)) ≡ true → afterFields first (suc n) s 0 ≡ At x → x ≤ m
     fields-within m x c e =
         let itself : Along s s 0 0 m = record { same = λ a l. refl; stop = c } in
-        go (fields-along itself first (suc n) 0 (omega arith)) e
-      where
-        go : {a b : Next} → Moved 0 0 m a b → a ≡ At x → x ≤ m
-        go (both d l) e = let same : 0 + d ≡ x = cc in omega arith
-        go neither e = absurd (never-at e)
+        unmoved-within x (fields-along itself first (suc n) 0 (omega arith)) e
 
     pub line-passed : (k : ℕ) → lineAt first (suc n) s 0 ≡ At k → emptyIn true s 0 ≡ emptyIn true (drop k s) k
     unfolding lineAt
     line-passed k e =
         let front = went (afterFields first (suc n) s 0) (lineFeed s) k e in
         let x = front .0 in
-        let end = feed-ends x k (ap (λ (y : Next). andThen y (lineFeed s)) (sym (front .1)) ∙ e) in
+        let end = feed-ends s x k (ap (λ (y : Next). andThen y (lineFeed s)) (sym (front .1)) ∙ e) in
         let here : 0 + x + 1 ≡ k = let q = end .1 in omega arith in
         pass x 0 true
         (λ m l z. let more = fields-within m x (ap closing z) (front .1) in omega arith)

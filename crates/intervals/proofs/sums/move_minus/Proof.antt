@@ -1,7 +1,7 @@
--- `sums::kw_less` meets its contract: the result fits, and is the difference.
+-- `sums::move_minus` meets its contract: the result fits, and is the difference.
 use Rattle.exact.proofs.Bits.{leaf, fits, gives, is-less}
-use Rattle.intervals.proofs.sums.kw_less.Statement.{statement}
-use Rattle.intervals.proofs.sums.kw_less.Tie as tie
+use Rattle.intervals.proofs.sums.move_minus.Statement.{statement}
+use Rattle.intervals.proofs.sums.move_minus.Tie as tie
 
 sub-t3 : tie.Need-sub-t3
 sub-t3 c = let p = c .before .before .before .before .pre in fits tt (is-less (leaf tt (p .0)) (leaf tt (p .1)))
@@ -9,5 +9,5 @@ sub-t3 c = let p = c .before .before .before .before .pre in fits tt (is-less (l
 returns : tie.Need-returns
 returns c = let p = c .before .before .before .before .pre in gives tt (is-less (leaf tt (p .0)) (leaf tt (p .1)))
 
-pub kw-less-spec : {M : Type 1} → statement M
-kw-less-spec = tie.close (tie.spec sub-t3 returns)
+pub move-minus-spec : {M : Type 1} → statement M
+move-minus-spec = tie.close (tie.spec sub-t3 returns)

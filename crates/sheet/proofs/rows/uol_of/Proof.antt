@@ -1,10 +1,10 @@
--- `block::uol_of` meets its contract: two numbers are the same when their bits are.
+-- `rows::uol_of` meets its contract: two numbers are the same when their bits are.
 use lib.IntN.{pos}
 use lib.Dec.{lit<}
 use Rattle.exact.proofs.Bits.{eq-held, ne-held}
 use mir.Facts.{toZ-ofZ}
-use Rattle.sheet.proofs.block.uol_of.Statement.{statement}
-use Rattle.sheet.proofs.block.uol_of.Tie as tie
+use Rattle.sheet.proofs.rows.uol_of.Statement.{statement}
+use Rattle.sheet.proofs.rows.uol_of.Tie as tie
 
 returns : tie.Need-returns
 returns c = rw (eq-held (c .before .args .v) (pos 10000000) (c .before .fits .v .sfits) (lit< tt) (c .if1 .taken))

@@ -1,9 +1,9 @@
--- `grains_or_loss` meets its contract: the lesser of the value and 0, by the test.
+-- `loss_or_zero` meets its contract: the lesser of the value and 0, by the test.
 use lib.Dec.{lit<}
 use lib.IntN.{pos}
 use Rattle.exact.proofs.Bits.{min-yes, min-no}
-use Rattle.units.proofs.grains_or_loss.Statement.{statement}
-use Rattle.units.proofs.grains_or_loss.Tie as tie
+use Rattle.units.proofs.loss_or_zero.Statement.{statement}
+use Rattle.units.proofs.loss_or_zero.Tie as tie
 
 returns : tie.Need-returns
 returns c = min-yes _ (pos 0) (c .before .struct-told .given .0 .1) (lit< tt) (c .if1 .taken)
@@ -11,5 +11,5 @@ returns c = min-yes _ (pos 0) (c .before .struct-told .given .0 .1) (lit< tt) (c
 returns-2 : tie.Need-returns-2
 returns-2 c = min-no _ (pos 0) (c .before .struct-told .given .0 .1) (lit< tt) (c .if1 .left)
 
-pub grains-or-loss-spec : {M : Type 1} → statement M
-grains-or-loss-spec = tie.close (tie.spec returns returns-2)
+pub loss-or-zero-spec : {M : Type 1} → statement M
+loss-or-zero-spec = tie.close (tie.spec returns returns-2)

@@ -1,4 +1,4 @@
--- `block::rows_at` meets its contract. After n lines the code has read them into the array's first n places.
+-- `rows::rows_at` meets its contract. After n lines the code has read them into the array's first n places.
 use mathlib.Core.Path.{_≡_, refl, sym, _∙_}
 use mathlib.Core.Bool.{false}
 use Prim.Native.Nat.{_-_}
@@ -11,8 +11,8 @@ use Rattle.lines.proofs.Lines.{FieldsRead, fields-read, line-is}
 use Rattle.lines.proofs.Rows.{ReadTo, rows-begin, rows-end, rows-over, rows-break, rows-next}
 use Rattle.sheet.specs.Block.{intervalOf}
 use Rattle.sheet.proofs.Values.{interval-same}
-use Rattle.sheet.proofs.block.rows_at.Statement.{statement}
-use Rattle.sheet.proofs.block.rows_at.Tie as tie
+use Rattle.sheet.proofs.rows.rows_at.Statement.{statement}
+use Rattle.sheet.proofs.rows.rows_at.Tie as tie
 
 abbrev Inv-loop : tie.InvT-loop
 Inv-loop s at iv₀ i₀ n₀ iv i n = ReadTo 16 20 4 30 intervalOf blank s at iv i n
