@@ -1,6 +1,5 @@
 // Document 01's worked hour, and the same hour with a day-ahead curve that ends one kilowatt short, settled and printed.
-use tariff::Answer;
-use tariff::Cents;
+use libc::STDOUT_FILENO;
 use tariff::Curve;
 use tariff::DayAhead;
 use tariff::Expected;
@@ -80,30 +79,12 @@ fn hour_14(da_end: i64) -> Hour {
     }
 }
 
-fn print_interval(i: u64, grains: i64) {
-    printer::print_count(b"i=", i);
-    printer::print_signed(b" grains=", grains);
-    printer::end_line();
-}
-
-fn print_pay(cents: Cents) {
-    printer::print_signed(b"hour=14 pay=", cents.0);
-    printer::end_line();
-}
-
 fn print_hour(h: Hour) {
-    let mut row = [0i64; 4];
-    let answer = engine::settle(h, false, Expected::Any, &mut row);
-    match answer {
-        Answer::Refused(check) => printer::print_refusal(check),
-        Answer::Paid(_, cents) => {
-            print_interval(1, row[0]);
-            print_interval(2, row[1]);
-            print_interval(3, row[2]);
-            print_interval(4, row[3]);
-            print_pay(cents);
-        }
-    }
+    let mut grains = [0i64; 4];
+    let answer = engine::settle(h, false, Expected::Any, &mut grains);
+    let mut row = [0u8; 2048];
+    let m = printed::answer_text(h.hour, &grains, 4, answer, &mut row);
+    io::write_all(STDOUT_FILENO, &row[..m]);
 }
 
 fn main() {

@@ -4,6 +4,7 @@ use mathlib.Core.Path.{_≡_}
 use borrow.Author.Needs.{needs}
 use lib.ListN.{length, length-set}
 use native.Mathlib.Omega.{arith}
+use Rattle.intake.proofs.Row.{counts}
 use Rattle.hour.proofs.read_text.Statement.{statement}
 use Rattle.hour.proofs.read_text.Tie as tie
 
@@ -26,7 +27,7 @@ same-length : tie.Need-same-length Inv-loop μ-loop
 same-length c = search needs
 
 returns : tie.Need-returns Inv-loop μ-loop
-returns c = search needs
+returns c = counts _ _ (search needs)
 
 array-read-text : tie.Need-array-read-text Inv-loop μ-loop
 array-read-text c = search needs
@@ -44,7 +45,7 @@ same-length-2 : tie.Need-same-length-2 Inv-loop μ-loop
 same-length-2 c = search needs
 
 returns-2 : tie.Need-returns-2 Inv-loop μ-loop
-returns-2 c = let h = c .before .before .before .before .before .before .before .loop-test .taken in simp length-set (omega arith)
+returns-2 c = counts _ _ (let h = c .before .before .before .before .before .before .before .loop-test .taken in simp length-set (omega arith))
 
 loop-less : tie.Need-loop-less Inv-loop μ-loop
 loop-less c = let h = c .before .before .before .before .before .before .before .loop-test .taken in simp length-set (omega arith)
@@ -59,7 +60,7 @@ same-length-3 : tie.Need-same-length-3 Inv-loop μ-loop
 same-length-3 c = search needs
 
 returns-3 : tie.Need-returns-3 Inv-loop μ-loop
-returns-3 c = search needs
+returns-3 c = counts _ _ (search needs)
 
 pub read-text-spec : {M : Type 1} → statement M
 read-text-spec =

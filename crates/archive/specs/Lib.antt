@@ -1,2 +1,0 @@
--- What the archive's numbers say of a reply.
-pub mod Numbers

@@ -1,0 +1,71 @@
+-- `culvertjig_block` meets its contract: it hands on the answer of the block call, a number for each part of it.
+use mathlib.Core.Path.{_≡_, ap, _∙_}
+use borrow.Author.Needs.{needs}
+use Rattle.exact.proofs.Calls.{handed}
+use Rattle.tariff.specs.declared.Answer.{Answer}
+use Rattle.tariff.specs.Reply.{told}
+use Rattle.culvertjig.specs.Numbers.{expectedOf, replyOf}
+use Rattle.culvertjig.proofs.Replies.{reply-told}
+use Rattle.culvertjig.proofs.culvertjig_block.Statement.{statement}
+use Rattle.culvertjig.proofs.culvertjig_block.Tie as tie
+
+hour : (c : tie.After-hour-expected) → c .hour-expected .result ≡ expectedOf (c .before .before .args .expected)
+hour c = c .hour-expected .ensures ∙ ap expectedOf (handed (c .before .before .args .expected) (c .before .before .fits .expected .sfits))
+
+-- what the block call says
+reply : (c : tie.After-settle-block) (b : Answer) → c .settle-block .result ≡ b
+    → let A = c .before .before .before .before .args in replyOf (A .block .now) (A .excluded) (A .expected) (A .row .now) ≡ told b
+reply c b e =
+    let A = c .before .before .before .before .args in
+    reply-told (A .block .now) (A .excluded) (A .expected) (A .row .now) _ _ b (hour (c .before .before)) (c .settle-block .ensures .0) e
+
+hour-expected-requires : tie.Need-hour-expected-requires
+hour-expected-requires c κs = search needs
+
+settle-block-requires : tie.Need-settle-block-requires
+settle-block-requires c κs = search needs
+
+enum-known-answer : tie.Need-enum-known-answer
+enum-known-answer c = search needs
+
+enum-known-answer-2 : tie.Need-enum-known-answer-2
+enum-known-answer-2 c = search needs
+
+place-of-requires : tie.Need-place-of-requires
+place-of-requires c κs = search needs
+
+number-of-requires : tie.Need-number-of-requires
+number-of-requires c κs = search needs
+
+same-length : tie.Need-same-length
+same-length c = search needs
+
+returns : tie.Need-returns
+returns c =
+    let k = c .before .before .before .before .before .before in
+    let r = reply k _ (c .before .before .before .answer .given .1) in
+    (rw r, (rw r, (rw r (handed _ (c .before .struct-told .given .0 .1)), (rw r (handed _ (c .struct-told2 .given .0 .1)), rw (hour (k .before .before)) at (k .settle-block .ensures .1)))))
+
+same-length-2 : tie.Need-same-length-2
+same-length-2 c = search needs
+
+returns-2 : tie.Need-returns-2
+returns-2 c =
+    let k = c .before .before .before .before .before .before in
+    let r = reply k _ (c .before .before .before .answer2 .given .1) in
+    (rw r (c .number-of .ensures), (rw r (c .before .place-of .ensures), (rw r, (rw r, rw (hour (k .before .before)) at (k .settle-block .ensures .1)))))
+
+pub culvertjig-block-spec : {M : Type 1} → statement M
+culvertjig-block-spec =
+    tie.close
+    (tie.spec
+    hour-expected-requires
+    settle-block-requires
+    enum-known-answer
+    enum-known-answer-2
+    place-of-requires
+    number-of-requires
+    same-length
+    returns
+    same-length-2
+    returns-2)

@@ -1,0 +1,2 @@
+-- A reply as numbers, for callers in other languages.
+pub mod Numbers

@@ -1,0 +1,51 @@
+// The block call for callers in C or Rust, where a slice passes as a pointer and a length.
+ghost use mathlib.Core.Path.{_≡_};
+ghost use Rattle.sheet.specs.Block.{blockOf, rowTo};
+ghost use Rattle.culvertjig.specs.Numbers.{expectedOf, replyOf, numberIn, placeIn, grainsIn, centsIn};
+use tariff::Answer;
+use tariff::Expected;
+
+// Below 0 stands for any hour.
+fn hour_expected(expected: i64) -> Expected
+    ensures { λ r. ⌜ r ≡ expectedOf expected ⌝ }
+{
+    if expected < 0 {
+        Expected::Any
+    } else {
+        Expected::Says(expected)
+    }
+}
+
+// Settles the hour block that begins at the first byte: 0 where it is paid, with `grains`, `cents` and the front of `row` written,
+// else the number of the check that refuses, with `place` written. What is not written is as it was.
+#[no_mangle]
+pub extern "C" fn culvertjig_block(
+    block: &[u8],
+    excluded: bool,
+    expected: i64,
+    row: &mut [i64],
+    place: &mut u64,
+    grains: &mut i64,
+    cents: &mut i64,
+) -> u64
+    ensures number { λ r. ⌜ r ≡ numberIn (replyOf (now (block .entry)) excluded expected (now (row .entry))) ⌝ }
+    ensures place { λ _. ⌜ now (place .exit) ≡ placeIn (replyOf (now (block .entry)) excluded expected (now (row .entry))) (now (place .entry)) ⌝ }
+    ensures grains { λ _. ⌜ now (grains .exit) ≡ grainsIn (replyOf (now (block .entry)) excluded expected (now (row .entry))) (now (grains .entry)) ⌝ }
+    ensures cents { λ _. ⌜ now (cents .exit) ≡ centsIn (replyOf (now (block .entry)) excluded expected (now (row .entry))) (now (cents .entry)) ⌝ }
+    ensures row { λ _. ⌜ now (row .exit) ≡ rowTo (blockOf (now (block .entry))) excluded (expectedOf expected) (now (row .entry)) ⌝ }
+{
+    let answer = sheet::settle_block(block, excluded, hour_expected(expected), row);
+    match answer {
+        Answer::Paid(sum, paid) => {
+            let whole = sum.0;
+            let rounded = paid.0;
+            *grains = whole;
+            *cents = rounded;
+            0
+        }
+        Answer::Refused(check) => {
+            *place = tariff::place_of(check) as u64;
+            tariff::number_of(check)
+        }
+    }
+}

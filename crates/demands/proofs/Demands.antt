@@ -1,0 +1,191 @@
+-- The demands, on one page: of the programs `hour`, `day` and `import`, of the block call for other programs, and of what they settle.
+-- A text is a list of bytes, any bytes. Each demand is proved by citing what proves it; the words are document 01's, in specs/ of each crate.
+use mathlib.Core.Path.{_≡_}
+use mathlib.Core.Bool.{Bool}
+use mathlib.Core.List.{List, [], _++_}
+use mathlib.Core.Logic.{_↔_}
+use Prim.Native.Nat.{ℕ, _+_, _<_, _≤_}
+use native.Mathlib.Omega.{arith}
+use lib.IntN.{ℤ, pos}
+use lib.ListN.{length, take}
+use Rattle.exact.specs.Whole.{sumTo}
+use Rattle.figures.specs.Table.{Holds, figures, figures-hold}
+use Rattle.tariff.specs.declared.Hour.{Hour}
+use Rattle.tariff.specs.declared.Expected.{Expected}
+use Rattle.tariff.specs.declared.Expected.the-variants.{Says}
+use Rattle.tariff.specs.Units.{centsOf}
+use Rattle.tariff.specs.Reply.{paid, refused, DERATE, REACH}
+use Rattle.tariff.specs.Hour.{contribution}
+use Rattle.tariff.specs.Eligible.{excluded}
+use Rattle.tariff.specs.Demand.{MustPrice, priceIn, FirstUnpriced, FirstExceeded, NoFaultTo4, NoFaultTo5, Extends}
+use Rattle.tariff.specs.Import as import
+use Rattle.tariff.proofs.Demands.{rounded-once}
+use Rattle.lines.specs.Pieces.{restAfter, piece}
+use Rattle.intake.specs.declared.Intake.{Intake}
+use Rattle.intake.specs.Intake.{keptOf, afterAll, rowAll, atFirst}
+use Rattle.intake.proofs.Kept.{parts, room-row}
+use Rattle.sheet.specs.Block.{blockOf, read, replyTo, rowTo}
+use Rattle.sheet.specs.Apart.{CurvesApart}
+use Rattle.sheet.specs.Closed.{Closed}
+use Rattle.sheet.proofs.BlockDemands.{only-needed-prices-of-blocks-matter, block-reach-exactly-when-unpriced, block-derate-exactly-when-exceeded, adding-curve-to-a-block-changes-nothing}
+use Rattle.header.specs.Header.{marksOf}
+use Rattle.ledger.specs.Day.{bodyOf, dayReply, total, dayTotal}
+use Rattle.ledger.specs.Demand.{centsIn, Pays, PricedAlike, DaysApart}
+use Rattle.ledger.proofs.DayDemands.{only-needed-prices-of-a-day-matter, adding-curve-to-a-day-changes-nothing, the-total-is-the-sum-of-what-is-printed}
+use Rattle.imports.specs.Import.{importReply}
+use Rattle.imports.specs.Demand.{PaidBy}
+use Rattle.imports.proofs.ImportDemands.{paid-exactly-when-unrefused}
+use Rattle.printed.specs.Printed.{hourText, dayText, importText}
+use Rattle.printed.proofs.Fits.{hour-fits, day-fits, import-fits}
+use Rattle.sheet.proofs.settle_block.Statement as block
+use Rattle.sheet.proofs.settle_block.Met as block-is
+use Rattle.printed.proofs.hour_text.Statement as hour
+use Rattle.printed.proofs.hour_text.Met as hour-is
+use Rattle.printed.proofs.day_text.Statement as day
+use Rattle.printed.proofs.day_text.Met as day-is
+use Rattle.printed.proofs.import_text.Statement as import-day
+use Rattle.printed.proofs.import_text.Met as import-is
+use Rattle.demands.proofs.Printed.{kept-hour, kept-day, kept-import, closed-hour, alike-days, refused-block}
+
+-- ==== 1. Every sheet, good or bad, gets an answer and the program stops
+
+-- `statement`: whatever it is lent, the call ends, and what it replies and leaves is what the `ensures` of its `pub fn` says. None has
+-- a `requires`.
+pub the-block-call-answers : {M : Type 1} → block.statement M
+the-block-call-answers = block-is.met
+
+pub hour-answers : {M : Type 1} → hour.statement M
+hour-answers = hour-is.met
+
+pub day-answers : {M : Type 1} → day.statement M
+day-answers = day-is.met
+
+pub import-answers : {M : Type 1} → import-day.statement M
+import-answers = import-is.met
+
+-- No answer is longer than the row of 2,048 bytes that a program lends for it, so none is cut.
+pub no-answer-is-cut : (s : List ℕ) → (length (hourText s) ≤ 2048) × (length (dayText 24 s) ≤ 2048) × (length (importText 24 s) ≤ 2048)
+no-answer-is-cut s = (hour-fits s, day-fits 24 s (omega arith), import-fits 24 s)
+
+-- However long a text is, what a program keeps of it in bounded memory gives the same bytes.
+pub what-is-kept-decides :
+    (s : List ℕ)
+    → (hourText (take 16384 s) ≡ hourText s) × (dayText 24 (keptOf (atFirst 25) s) ≡ dayText 24 s) × (importText 24 (keptOf (atFirst 25) s) ≡ importText 24 s)
+what-is-kept-decides s = (kept-hour s, kept-day 24 s (omega arith), kept-import 24 s)
+
+-- `hour` reads up to the empty line that closes its block: what follows never changes a byte of its answer.
+pub hour-stops-at-the-empty-line : (s behind : List ℕ) → Closed s → hourText (s ++ behind) ≡ hourText s
+hour-stops-at-the-empty-line = closed-hour
+
+-- What a program keeps is in its row of 409,680 bytes when the input has ended, in whatever parts the input came.
+pub the-row-holds-what-is-kept :
+    (row s : List ℕ)
+    → 409679 ≤ length row
+    → take (afterAll row (atFirst 25) s .n) (rowAll row (atFirst 25) s) ≡ keptOf (atFirst 25) s
+the-row-holds-what-is-kept row s room = room-row row s 25 room
+
+pub no-matter-in-which-parts :
+    (row a b : List ℕ) (i : Intake)
+    → (afterAll row i (a ++ b) ≡ afterAll (rowAll row i a) (afterAll row i a) b) × (rowAll row i (a ++ b) ≡ rowAll (rowAll row i a) (afterAll row i a) b)
+no-matter-in-which-parts row a b i = parts a b row i
+
+-- A refusal leaves the lent row untouched.
+pub a-refusal-leaves-the-row :
+    (s : List ℕ) (isExcluded : Bool) (expected : Expected) (row : List ℤ) (number place : ℕ)
+    → replyTo (blockOf s) isExcluded expected (length row) ≡ refused number place
+    → rowTo (blockOf s) isExcluded expected row ≡ row
+a-refusal-leaves-the-row s = refused-block (blockOf s)
+
+-- ==== 2. Every contribution and payment is Attachment J's, in whole units, rounded only where document 01 says
+
+-- The figures P1 to P10.
+pub the-figures-hold : Holds figures
+the-figures-hold = figures-hold
+
+-- An hour: its sum is that of its contributions, and becomes cents once.
+pub an-hour-pays-its-contributions :
+    (s : List ℕ) (h : Hour) (isExcluded : Bool) (expected : Expected) (room : ℕ) (sum cents : ℤ)
+    → blockOf s ≡ read h
+    → replyTo (blockOf s) isExcluded expected room ≡ paid sum cents
+    → (sum ≡ sumTo (contribution h isExcluded) (h .n)) × (cents ≡ centsOf (sumTo (contribution h isExcluded) (h .n)))
+an-hour-pays-its-contributions s h isExcluded expected room sum cents b e = rounded-once h isExcluded expected room sum cents (rw b at e)
+
+-- A day: the cents of its hours, where every hour is paid and nothing follows the last block.
+pub a-day-pays-its-hours :
+    (hours : ℕ) (s : List ℕ) (c : ℤ)
+    → (dayTotal hours s ≡ total c)
+    ↔ (((k : ℕ) → k < hours → Pays (dayReply hours s k)) × (c ≡ sumTo (λ k. centsIn (dayReply hours s k)) hours) × (restAfter hours (bodyOf hours s) ≡ []))
+a-day-pays-its-hours = the-total-is-the-sum-of-what-is-printed
+
+-- A curtailed import: the sum of its hours' parts, which becomes cents once, where nothing refuses it.
+pub an-import-pays-its-hours : (hours : ℕ) (s : List ℕ) (name g c : ℤ) → (importReply hours s ≡ import.paid name g c) ↔ PaidBy hours s name g c
+an-import-pays-its-hours = paid-exactly-when-unrefused
+
+-- ==== 3. Only the prices of the kilowatts that eligible intervals must price matter
+
+-- Two blocks that differ in their curve lines only, that no check from 1 to 4 refuses, and whose prices agree on every such kilowatt
+-- have one answer and one row, however their curves are cut into steps.
+pub only-those-prices-matter :
+    (s t : List ℕ) (h g : Hour) (isExcluded : Bool) (expected : Expected) (row : List ℤ)
+    → CurvesApart s t
+    → blockOf s ≡ read h
+    → blockOf t ≡ read g
+    → NoFaultTo4 h expected
+    → NoFaultTo4 g expected
+    → ((i : ℕ) (k : ℤ) → MustPrice h isExcluded i k → priceIn h i k ≡ priceIn g i k)
+    → (replyTo (blockOf s) isExcluded expected (length row) ≡ replyTo (blockOf t) isExcluded expected (length row)) × (rowTo (blockOf s) isExcluded expected row ≡ rowTo (blockOf t) isExcluded expected row)
+only-those-prices-matter = only-needed-prices-of-blocks-matter
+
+-- And two days of such blocks are printed alike, byte for byte.
+pub such-days-are-printed-alike :
+    (hours : ℕ) (s t : List ℕ)
+    → DaysApart hours s t
+    → ((k : ℕ) → k < hours → (h g : Hour)
+    → blockOf (piece k (bodyOf hours s)) ≡ read h
+    → blockOf (piece k (bodyOf hours t)) ≡ read g
+    → PricedAlike h g (excluded hours (marksOf hours s) k) (Says (pos k)))
+    → dayText hours s ≡ dayText hours t
+such-days-are-printed-alike hours s t apart priced = alike-days hours s t apart (only-needed-prices-of-a-day-matter hours s t apart priced)
+
+-- An hour is refused for reach exactly when no check from 1 to 5 refuses it and such a kilowatt has no price, at the first interval that
+-- has one, and no derate refusal comes first.
+pub reach-exactly-when-such-a-kilowatt-has-no-price :
+    (s : List ℕ) (h : Hour) (isExcluded : Bool) (expected : Expected) (room i : ℕ)
+    → blockOf s ≡ read h
+    → (replyTo (blockOf s) isExcluded expected room ≡ refused REACH (i + 1)) ↔ (NoFaultTo5 h expected × FirstUnpriced h isExcluded i)
+reach-exactly-when-such-a-kilowatt-has-no-price = block-reach-exactly-when-unpriced
+
+-- And for derate exactly when no check from 1 to 5 refuses it and the reduction of an eligible interval exceeds the room for it, at the
+-- first such interval, and no reach refusal comes first.
+pub derate-exactly-when-a-reduction-exceeds-its-room :
+    (s : List ℕ) (h : Hour) (isExcluded : Bool) (expected : Expected) (room i : ℕ)
+    → blockOf s ≡ read h
+    → (replyTo (blockOf s) isExcluded expected room ≡ refused DERATE (i + 1)) ↔ (NoFaultTo5 h expected × FirstExceeded h isExcluded i)
+derate-exactly-when-a-reduction-exceeds-its-room = block-derate-exactly-when-exceeded
+
+-- Adding curve to a paid hour never moves a cent, where the longer curves break no rule of checks 1 to 4.
+pub adding-curve-never-moves-a-cent :
+    (s t : List ℕ) (h g : Hour) (isExcluded : Bool) (expected : Expected) (row : List ℤ)
+    → CurvesApart s t
+    → blockOf s ≡ read h
+    → blockOf t ≡ read g
+    → (sum cents : ℤ)
+    → NoFaultTo4 g expected
+    → Extends (h .da) (g .da)
+    → Extends (h .rt) (g .rt)
+    → replyTo (blockOf s) isExcluded expected (length row) ≡ paid sum cents
+    → (replyTo (blockOf t) isExcluded expected (length row) ≡ paid sum cents) × (rowTo (blockOf t) isExcluded expected row ≡ rowTo (blockOf s) isExcluded expected row)
+adding-curve-never-moves-a-cent = adding-curve-to-a-block-changes-nothing
+
+-- Nor to a day whose hours are all paid: every byte that is printed stays.
+pub adding-curve-to-a-day-never-moves-a-cent :
+    (hours : ℕ) (s t : List ℕ)
+    → DaysApart hours s t
+    → ((k : ℕ) → k < hours → Pays (dayReply hours s k))
+    → ((k : ℕ) → k < hours → (h g : Hour)
+    → blockOf (piece k (bodyOf hours s)) ≡ read h
+    → blockOf (piece k (bodyOf hours t)) ≡ read g
+    → NoFaultTo4 g (Says (pos k)) × Extends (h .da) (g .da) × Extends (h .rt) (g .rt))
+    → dayText hours s ≡ dayText hours t
+adding-curve-to-a-day-never-moves-a-cent hours s t apart pays longer =
+    alike-days hours s t apart (adding-curve-to-a-day-changes-nothing hours s t apart pays longer)

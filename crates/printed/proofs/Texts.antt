@@ -1,0 +1,62 @@
+-- The texts of the programs: what the calls write from the row's beginning on, and what the code's answers make of them.
+use mathlib.Core.Path.{_≡_, refl, sym, _∙_, ap}
+use mathlib.Core.Bool.{false}
+use mathlib.Core.List.{List, _++_}
+use Prim.Native.Nat.{ℕ, min, _≤_}
+use native.Mathlib.Omega.{arith}
+use lib.IntN.{ℤ}
+use lib.ListN.{length, take, drop}
+use lib.Seq.{take-append-seam}
+use Rattle.exact.specs.Whole.{upTo}
+use Rattle.exact.proofs.Sums.{up-length}
+use Rattle.io.specs.Counts.{Counts}
+use Rattle.intake.proofs.Row.{counts}
+use Rattle.tariff.specs.declared.Hour.{Hour}
+use Rattle.tariff.specs.declared.Expected.the-variants.{Any}
+use Rattle.tariff.specs.Reply.{Reply, paid, refused, Verdict}
+use Rattle.tariff.specs.Hour.{contribution, rowFor, rowAfter, reply}
+use Rattle.sheet.specs.Block.{Block, broken, read, blockOf, replyTo, rowTo, hourSaid, countSaid}
+use Rattle.header.specs.Header.{headerFault}
+use Rattle.ledger.specs.Day.{Sum, dayReplies, dayTotal}
+use Rattle.printed.specs.Page.{written, Put}
+use Rattle.printed.specs.Printed.{answerText, contributionsOf, hourText, dayLines, dayText}
+use Rattle.printed.proofs.Pages.{put-length}
+
+pub put-first : {row after : List ℕ} {next : ℕ} {text : List ℕ} → Put row 0 text after next
+    → (after ≡ written row 0 text) × ((next ≡ min (length text) (length row)) × Counts next after)
+put-first {row} {after} {next} {text} p =
+    let e = p .place in
+    let n = put-length p in
+    let within : next ≤ length after = omega arith in
+    (p .bytes, (omega arith, counts next after within))
+
+-- ---- `hour`
+
+front-row : (h : Hour) (hour : ℤ) (row : List ℤ) (r : Reply)
+    → answerText hour (take (h .n) (rowFor r h false row)) r ≡ answerText hour (upTo (contribution h false) (h .n)) r
+front-row h hour row (paid sum cents) =
+    let all = upTo (contribution h false) (h .n) in
+    ap (λ (g : List ℤ). answerText hour g (paid sum cents))
+    (ap (λ (n : ℕ). take n (all ++ drop (h .n) row)) (sym (up-length (contribution h false) (h .n))) ∙ take-append-seam all (drop (h .n) row))
+front-row h hour row (refused number place) = refl
+
+front : (b : Block) (row : List ℤ)
+    → answerText (hourSaid b) (take (countSaid b) (rowTo b false Any row)) (replyTo b false Any (length row))
+    ≡ answerText (hourSaid b) (contributionsOf b) (replyTo b false Any (length row))
+unfolding rowAfter
+front (broken line) row = refl
+front (read h) row = front-row h (h .hour) row (reply h false Any (length row))
+
+pub hour-text : (s : List ℕ) (row : List ℤ) {hour : ℤ} {n : ℕ} {after : List ℤ} {r : Reply} → length row ≡ 30
+    → hour ≡ hourSaid (blockOf s) → n ≡ countSaid (blockOf s) → after ≡ rowTo (blockOf s) false Any row → r ≡ replyTo (blockOf s) false Any (length row)
+    → answerText hour (take n after) r ≡ hourText s
+unfolding hourText
+hour-text s row long e f g h =
+    rw (e, f, g, h) (front (blockOf s) row ∙ ap (λ (room : ℕ). answerText (hourSaid (blockOf s)) (contributionsOf (blockOf s)) (replyTo (blockOf s) false Any room)) long)
+
+-- ---- `day`
+
+pub day-text : (hours : ℕ) (s : List ℕ) {v : Verdict} {replies : List Reply} {sum : Sum}
+    → v ≡ headerFault hours s → replies ≡ dayReplies hours s → sum ≡ dayTotal hours s → dayLines v replies sum ≡ dayText hours s
+unfolding dayText
+day-text hours s e f g = rw (e, f, g)

@@ -1,0 +1,48 @@
+-- `hour_text` settles the block into a row of its own and writes the answer from the lent row's beginning on.
+use mathlib.Core.Path.{refl, _∙_}
+use Rattle.exact.proofs.Calls.{handed}
+use Rattle.printed.proofs.Pages.{put-as}
+use Rattle.printed.proofs.Texts.{put-first, hour-text}
+use borrow.Author.Needs.{needs}
+use Rattle.printed.proofs.hour_text.Statement.{statement}
+use Rattle.printed.proofs.hour_text.Tie as tie
+
+slice-aggregate-settle-block : tie.Need-slice-aggregate-settle-block
+slice-aggregate-settle-block c = search needs
+
+settle-block-requires : tie.Need-settle-block-requires
+settle-block-requires c κs = search needs
+
+said-by-requires : tie.Need-said-by-requires
+said-by-requires c κs = search needs
+
+slice-aggregate-put-answer : tie.Need-slice-aggregate-put-answer
+slice-aggregate-put-answer c = search needs
+
+put-answer-requires : tie.Need-put-answer-requires
+put-answer-requires c κs = search needs
+
+same-length : tie.Need-same-length
+same-length c = search needs
+
+returns : tie.Need-returns
+returns c =
+    let s = c .before .before .before .before .before .before .before .before .before .before .before .before .args .block .now in
+    let settled = c .before .before .before .before .before .before .before .before .settle-block in
+    let said = c .before .before .before .before .before .before .said-by in
+    put-first (
+    put-as
+    (hour-text s _ refl (handed (said .result .hour) (c .before .before .before .struct-told .given .0 .1) ∙ said .ensures .0) (said .ensures .1) (settled .ensures .1) (settled .ensures .0))
+    (c .before .before .put-answer .ensures))
+
+pub hour-text-spec : {M : Type 1} → statement M
+hour-text-spec =
+    tie.close
+    (tie.spec
+    slice-aggregate-settle-block
+    settle-block-requires
+    said-by-requires
+    slice-aggregate-put-answer
+    put-answer-requires
+    same-length
+    returns)

@@ -1,0 +1,70 @@
+// What the programs print: the text of each answer, byte by byte, into a row that the caller lends. A row that is too short gets the
+// text's beginning. Each call replies how many bytes it wrote; that they lie within the row follows, and is said so that a caller
+// can write them out as they stand. Nothing here writes to a file.
+mod answers;
+mod page;
+
+ghost use mathlib.Core.Path.{_≡_};
+ghost use Prim.Native.Nat.{min};
+ghost use lib.ListN.{length, take};
+ghost use Rattle.io.specs.Counts.{Counts};
+ghost use Rattle.tariff.specs.Reply.{told};
+ghost use Rattle.printed.specs.Page.{written};
+ghost use Rattle.printed.specs.Printed.{answerText, hourText, dayText, importText};
+use tariff::Answer;
+use tariff::Expected;
+use tariff::Found;
+use tariff::ImportAnswer;
+
+// The text of an hour's answer, of which the first n entries of `grains` are the contributions.
+pub fn answer_text(hour: i64, grains: &[i64], n: usize, answer: Answer, row: &mut [u8]) -> usize
+    ensures text { λ r. ⌜ now (row .exit) ≡ written (now (row .entry)) 0 (answerText hour (take n (now (grains .entry))) (told answer)) ⌝ }
+    ensures count { λ r. ⌜ r ≡ min (length (answerText hour (take n (now (grains .entry))) (told answer))) (length (now (row .entry))) ⌝ }
+    ensures within { λ r. ⌜ Counts r (now (row .exit)) ⌝ }
+{
+    answers::put_answer(row, 0, hour, grains, n, answer)
+}
+
+// What `hour` prints of a block.
+pub fn hour_text(block: &[u8], row: &mut [u8]) -> usize
+    ensures text { λ r. ⌜ now (row .exit) ≡ written (now (row .entry)) 0 (hourText (now (block .entry))) ⌝ }
+    ensures count { λ r. ⌜ r ≡ min (length (hourText (now (block .entry)))) (length (now (row .entry))) ⌝ }
+    ensures within { λ r. ⌜ Counts r (now (row .exit)) ⌝ }
+{
+    let mut grains = [0i64; 30];
+    let answer = sheet::settle_block(block, false, Expected::Any, &mut grains);
+    let said = sheet::said_by(block);
+    answers::put_answer(row, 0, said.hour, &grains, said.n, answer)
+}
+
+// What `day` prints of a sheet.
+pub fn day_text(sheet: &[u8], row: &mut [u8]) -> usize
+    ensures text { λ r. ⌜ now (row .exit) ≡ written (now (row .entry)) 0 (dayText 24 (now (sheet .entry))) ⌝ }
+    ensures count { λ r. ⌜ r ≡ min (length (dayText 24 (now (sheet .entry)))) (length (now (row .entry))) ⌝ }
+    ensures within { λ r. ⌜ Counts r (now (row .exit)) ⌝ }
+{
+    let day = ledger::settle_day(sheet);
+    let header = day.header;
+    match header {
+        Found::Fault(check) => answers::put_refusal(row, 0, check),
+        Found::Nothing => {
+            let hours = day.hours;
+            let total = day.total;
+            let behind_hours = answers::put_hours(row, 0, hours);
+            answers::put_total(row, behind_hours, total)
+        }
+    }
+}
+
+// What `import` prints of a text.
+pub fn import_text(text: &[u8], row: &mut [u8]) -> usize
+    ensures text { λ r. ⌜ now (row .exit) ≡ written (now (row .entry)) 0 (importText 24 (now (text .entry))) ⌝ }
+    ensures count { λ r. ⌜ r ≡ min (length (importText 24 (now (text .entry)))) (length (now (row .entry))) ⌝ }
+    ensures within { λ r. ⌜ Counts r (now (row .exit)) ⌝ }
+{
+    let answer = imports::settle_import(text);
+    match answer {
+        ImportAnswer::Refused(fault) => answers::put_fault(row, 0, fault),
+        ImportAnswer::Paid(name, _, cents) => answers::put_pay(row, 0, b"import=", name, cents),
+    }
+}
