@@ -5,7 +5,8 @@
 #
 # A code span of the page with a slash in it is a reference, `path` or
 # `path#name`: the path is there, and the name is declared in that file, in
-# .antt as `name :`, in .rt as a fn, struct or enum, in .rs and .sh as a word.
+# .antt as `name :`, in .rt as a fn, struct or enum, in .rs as one of these, a
+# const, static, mod or type, or an enum's case, in .sh as `name()`.
 # And the page is whole: it names each theorem of the front pages and of every
 # Unique.antt, each must-fail edit and each public function. The last line
 # counts what passed and what failed; the status is 1 if anything failed.
@@ -25,7 +26,7 @@ fi
 cd "$root" || exit 2
 
 # The pages that state what is proved of the definitions.
-fronts='tariff/proofs/Demands tariff/proofs/Imports sheet/proofs/BlockDemands
+fronts='demands/proofs/Demands tariff/proofs/Demands tariff/proofs/Imports sheet/proofs/BlockDemands
     marks/proofs/Far ledger/proofs/DayDemands imports/proofs/ImportDemands'
 
 work_in trace
@@ -81,15 +82,29 @@ function rt(line, words) {
     if (match(line, /^ *(pub )?(extern "C" )?(fn|struct|enum) [A-Za-z0-9_]+/))
         print file "\t" words[split(substr(line, 1, RLENGTH), words, " ")]
 }
-function plain(line, words, i) {
-    for (i = split(line, words, /[^A-Za-z0-9_]+/); i > 0; i--) if (words[i] != "") print file "\t" words[i]
+# The word behind a keyword, and each case of an enum.
+function rs(line, words, edge, n) {
+    sub(/ *\/\/.*/, "", line)
+    edge = match(line, /[^ ]/) - 1
+    if (match(line, /^ *(pub(\([a-z]+\))? )?(const |unsafe |extern "C" )*(fn|struct|enum|const|static|mod|type) [A-Za-z0-9_]+/)) {
+        n = split(substr(line, 1, RLENGTH), words, " ")
+        print file "\t" words[n]
+        if (words[n - 1] == "enum") inside = edge
+    } else if (edge == inside && line ~ /^ *[}]/) inside = -1
+    else if (inside >= 0 && edge == inside + 4 && match(line, /^ *[A-Z][A-Za-z0-9]*/))
+        print file "\t" substr(line, edge + 1, RLENGTH - edge)
+}
+function sh(line) {
+    if (match(line, /^[A-Za-z0-9_]+\(\)/)) print file "\t" substr(line, 1, RLENGTH - 2)
 }
 {
     file = $0
+    inside = -1
     while ((getline line < file) > 0) {
         if (file ~ /\.antt$/) antt(line)
         else if (file ~ /\.rt$/) rt(line)
-        else if (file ~ /\.(rs|sh)$/) plain(line)
+        else if (file ~ /\.rs$/) rs(line)
+        else if (file ~ /\.sh$/) sh(line)
     }
     close(file)
 }' | sort -u >"$work/declared"

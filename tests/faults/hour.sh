@@ -41,22 +41,25 @@ answered "a pause within a line"
 answered "a pause in front of the empty line"
 
 # --- Input that stays open behind the block's empty line.
-held_open "$work/closed"
-answered "an input that stays open"
+stays_open() {
+    held_open "$work/closed"
+    answered "an input that stays open"
 
-{ cat "$work/closed"; printf 'hour=15 en='; } >"$work/text"
-held_open "$work/text"
-answered "an input that stays open within the next block"
+    { cat "$work/closed"; printf 'hour=15 en='; } >"$work/text"
+    held_open "$work/text"
+    answered "an input that stays open within the next block"
 
-echo "refused=1 at=1" >"$work/want"
-echo >"$work/text"
-held_open "$work/text"
-answered "an empty line, and an input that stays open"
+    echo "refused=1 at=1" >"$work/want"
+    echo >"$work/text"
+    held_open "$work/text"
+    answered "an empty line, and an input that stays open"
 
-echo "refused=1 at=7" >"$work/want"
-{ first "$work/closed" $((size - 2)); printf ' \n\n'; } >"$work/text"
-held_open "$work/text"
-answered "a refused block, and an input that stays open"
+    echo "refused=1 at=7" >"$work/want"
+    { first "$work/closed" $((size - 2)); printf ' \n\n'; } >"$work/text"
+    held_open "$work/text"
+    answered "a refused block, and an input that stays open"
+}
+stays_open
 
 # --- Both ends.
 echo "refused=1 at=1" >"$work/want"

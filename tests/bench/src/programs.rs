@@ -41,7 +41,7 @@ pub fn run(program: &Path, arguments: &[&str], file: &Path) -> io::Result<()> {
     }
 }
 
-/// Measures the programs that are built.
+/// Measures the programs. One that is not built is an error, and not left out.
 pub fn measure(root: &Path, files: &Files) -> io::Result<Vec<Program>> {
     let mut programs = Vec::new();
     for (name, second, hours, files) in [
@@ -50,10 +50,13 @@ pub fn measure(root: &Path, files: &Files) -> io::Result<Vec<Program>> {
     ] {
         let bin = root.join("target/bin").join(name);
         let second = root.join("tests/second/target/release").join(second);
-        if bin.is_file() && second.is_file() {
-            let bins = [&bin, &second, &PathBuf::from("wc")];
-            programs.push(of(name, hours, bins, files)?);
+        for file in [&bin, &second] {
+            if !file.is_file() {
+                return Err(io::Error::other(format!("no program {}", file.display())));
+            }
         }
+        let bins = [&bin, &second, &PathBuf::from("wc")];
+        programs.push(of(name, hours, bins, files)?);
     }
     Ok(programs)
 }

@@ -4,12 +4,12 @@
 use std::path::{Path, PathBuf};
 use std::{fs, io};
 
-use compare::hours;
+use compare::hours::{self, is_paid};
 use compare::random::Rng;
 use second::curve::MOST_STEPS;
 use second::day::HOURS;
 use second::record::MOST_INTERVALS;
-use second::{hour, Answer, Header, HourRecord};
+use second::{Header, HourRecord};
 
 /// The seed of all sheets.
 const SEED: u64 = 1;
@@ -96,11 +96,4 @@ fn full_block(rng: &mut Rng, hour: usize) -> Vec<u8> {
 fn is_full(record: &HourRecord) -> bool {
     let steps = [record.da.count, record.rt.count];
     record.count == MOST_INTERVALS && steps == [MOST_STEPS; 2]
-}
-
-fn is_paid(record: &HourRecord) -> bool {
-    let mut row = [0; MOST_INTERVALS];
-    let run = &mut second::Run::quiet(second::Way::Steps);
-    let answer = hour::judge_record(record, second::Ask::default(), &mut row, run);
-    matches!(answer, Answer::Paid(_))
 }

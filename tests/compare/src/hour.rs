@@ -446,7 +446,7 @@ fn block_of_sheet(rng: &mut Rng, sheet: &Sheet) -> Vec<u8> {
 fn broken_curve(rng: &mut Rng, turn: usize) -> Vec<u8> {
     let mut record = with_curves(rng);
     let kind = turn / 2 % 8;
-    break_curve(rng, curve_of(&mut record, turn.is_multiple_of(2)), kind);
+    break_curve(rng, curve_of(&mut record, turn % 2 == 0), kind);
     if rng.once_in(6) {
         break_curve(rng, &mut record.rt, kind);
     }
@@ -654,7 +654,7 @@ fn several(rng: &mut Rng, turn: usize) -> Vec<u8> {
     }
     if faults & 2 != 0 {
         let kind = rng.below(4);
-        break_curve(rng, curve_of(&mut record, turn.is_multiple_of(2)), kind);
+        break_curve(rng, curve_of(&mut record, turn % 2 == 0), kind);
     }
     if faults & 4 != 0 {
         record.intervals[rng.below(count)].uol = Some(0);

@@ -6,7 +6,7 @@ use second::derate::{day_ahead_schedules, real_time_schedules, reduced};
 use second::energy::{limit, Amounts};
 use second::record::MOST_INTERVALS;
 use second::text::{Range, BID, ENERGY, HOUR, POWER, PRICE};
-use second::{Curve, DayAhead, HourRecord, Interval, Trace};
+use second::{hour, Answer, Ask, Curve, DayAhead, HourRecord, Interval, Run, Trace, Way};
 
 use crate::random::Rng;
 
@@ -499,6 +499,13 @@ pub fn trim(curve: &Curve, low: i64, high: i64) -> Curve {
         return Curve::default();
     }
     Curve::new(low, &steps)
+}
+
+/// Whether an eligible hour is paid, by the second program.
+pub fn is_paid(record: &HourRecord) -> bool {
+    let row = &mut [0; MOST_INTERVALS];
+    let answer = hour::judge_record(record, Ask::default(), row, &mut Run::quiet(Way::Steps));
+    matches!(answer, Answer::Paid(_))
 }
 
 #[cfg(test)]

@@ -355,7 +355,7 @@ fn pair(rng: &mut Rng, turn: usize) -> Pair {
     let place = rng.below(HOURS);
     let row = &mut hours[place].intervals;
     let cut = row.iter().position(|interval| interval.s > 1);
-    let name = match cut.filter(|_| turn.is_multiple_of(2) && row.len() < MOST_INTERVALS) {
+    let name = match cut.filter(|_| turn % 2 == 0 && row.len() < MOST_INTERVALS) {
         Some(at) => {
             let s = rng.between(1, row[at].s - 1);
             let rest = ImportInterval {

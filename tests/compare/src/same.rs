@@ -4,10 +4,10 @@
 use second::curve::MOST_STEPS;
 use second::record::MOST_INTERVALS;
 use second::text::{BID, ENERGY, POWER, PRICE};
-use second::{hour, Answer, Ask, Curve, HourRecord, Interval, Run};
+use second::{Curve, HourRecord, Interval};
 
 use crate::damage::with_surplus;
-use crate::hours::{self, curve_of, hull, priced, sum_and_room, trim};
+use crate::hours::{self, curve_of, hull, is_paid, priced, sum_and_room, trim};
 use crate::random::Rng;
 
 /// How the second answer follows from the first.
@@ -199,12 +199,6 @@ fn surplus(rng: &mut Rng) -> Pair {
         before,
         bond: Bond::Same,
     }
-}
-
-fn is_paid(record: &HourRecord) -> bool {
-    let row = &mut [0; MOST_INTERVALS];
-    let answer = hour::judge_record(record, Ask::default(), row, &mut Run::default());
-    matches!(answer, Answer::Paid(_))
 }
 
 /// The curve with one step cut in two of the same price, if one can be cut.

@@ -102,7 +102,7 @@ impl Header {
     /// Every reason for which the hour is excluded; none if it is eligible.
     pub fn reasons(&self, hour: usize) -> Vec<Reason> {
         let mut reasons = Vec::new();
-        if self.cat.get(hour).is_none_or(|category| *category == 0) {
+        if matches!(self.cat.get(hour), None | Some(0)) {
             reasons.push(Reason::NoCategory);
         }
         for mark in 1..=3 {
