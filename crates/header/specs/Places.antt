@@ -9,7 +9,7 @@ use lib.ListN.{getD}
 use Rattle.exact.specs.Whole.{eqZ}
 use Rattle.tariff.specs.declared.Marks.{Marks}
 use Rattle.tariff.specs.Import.{isMark, isName}
-use Rattle.tariff.specs.Reply.{Verdict, unless}
+use Rattle.tariff.specs.Reply.{FORM, Verdict, unless}
 use Rattle.text.specs.declared.Next.the-variants.{At}
 use Rattle.lines.specs.Line.{isAt, filled}
 use Rattle.header.specs.declared.heads.Places.{Places}
@@ -29,7 +29,7 @@ abbrev pub refusedAt : (number line : ℕ) → Verdict
 refusedAt number line = unless (eqb line 0) number line
 
 pub record PlacesRead (hours : ℕ) (s : List ℕ) (r : Places) : Type 0 where
-  pub told : refusedAt 1 (r .broken) ≡ headerForm hours s
+  pub told : refusedAt FORM (r .broken) ≡ headerForm hours s
   pub placed : r .broken ≡ 0 → Placed hours s (r .at)
 
 -- the range of the number on line 0, 1 or 2

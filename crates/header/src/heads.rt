@@ -3,6 +3,7 @@ ghost use mathlib.Core.Path.{_≡_};
 ghost use Prim.Native.Nat.{_+_, _<_, _≤_};
 ghost use lib.IntN.{pos};
 ghost use Rattle.exact.specs.Whole.{eqZ};
+ghost use Rattle.tariff.specs.Reply.{RANGE};
 ghost use Rattle.text.specs.Text.{keyAt};
 ghost use Rattle.lines.specs.Keys.{keyOf};
 ghost use Rattle.lines.specs.Line.{placeIn, valueIn, filled};
@@ -107,7 +108,7 @@ pub fn in_range(s: &[u8], at: usize, j: usize, hours: usize) -> bool
 // The first line, from 1, that is out of range, or 0.
 pub fn odd_line(s: &[u8], at: [usize; 12], hours: usize) -> usize
     requires { ⌜ Placed hours (now s) at ⌝ }
-    ensures { λ r. ⌜ refusedAt 2 r ≡ headerRange hours (now (s .entry)) ⌝ }
+    ensures { λ r. ⌜ refusedAt RANGE r ≡ headerRange hours (now (s .entry)) ⌝ }
 {
     let mut j: usize = 0;
     while j < 10 {

@@ -1,10 +1,10 @@
--- The answers of the block places: one more, all the same, and that the replies tell them.
+-- The answers of the block places: one more, all the same, the reply for each, and that the replies tell them.
 use mathlib.Core.Path.{_≡_, refl, ap, _∙_}
 use mathlib.Core.List.{List, [], _∷_, _++_}
 use Prim.Native.Nat.{ℕ, zero, suc, _+_, _<_}
 use native.Mathlib.Numerals.{add-one}
 use native.Mathlib.Omega.{arith}
-use lib.ListN.{length, take, set, replicate}
+use lib.ListN.{length, getD, take, set, replicate}
 use lib.Seq.{take-suc-set}
 use Rattle.exact.specs.Whole.{upTo}
 use Rattle.tariff.specs.declared.Answer.{Answer}
@@ -37,6 +37,18 @@ pub told-filled : (a : Answer) (n : ℕ) → toldAll (replicate n (place a)) ≡
 unfolding toldAll upTo
 told-filled a zero = refl
 told-filled a (suc n) = ap {B = List Reply} (λ l. told a ∷ l) (told-filled a n) ∙ up-front (λ _. told a) (told a) n (λ k. refl)
+
+-- there is a reply for each place, and it is that place's
+pub told-length : (l : List Place) (n : ℕ) → length l ≡ n → length (toldAll l) ≡ n
+unfolding toldAll
+told-length [] n e = e
+told-length (p ∷ ps) n e = ap suc (told-length ps (length ps) refl) ∙ e
+
+pub told-at : (l : List Place) (k : ℕ) (p : Place) → k < length l → getD (toldAll l) k (told (p .answer)) ≡ told (getD l k p .answer)
+unfolding toldAll
+told-at [] k p h = refl
+told-at (x ∷ xs) zero p h = refl
+told-at (x ∷ xs) (suc k) p h = told-at xs k p (omega arith)
 
 -- no two different rows of answers tell the same
 pub places-one : (l m : List Place) → toldAll l ≡ toldAll m → l ≡ m

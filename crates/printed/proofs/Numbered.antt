@@ -1,15 +1,12 @@
 -- Numbered lines, one more at a time.
-use mathlib.Core.Path.{_≡_, refl, sym, _∙_, ap}
+use mathlib.Core.Path.{_≡_, sym, _∙_, ap}
 use mathlib.Core.List.{List, [], _∷_, _++_, append-assoc, append-nil}
-use Prim.Native.Nat.{ℕ, zero, suc, _+_, _<_}
+use Prim.Native.Nat.{ℕ, suc, _+_, _<_}
 use native.Mathlib.Nat.{add-zero}
 use native.Mathlib.Numerals.{add-one}
 use native.Mathlib.Omega.{arith}
 use lib.ListN.{length, getD, take}
 use lib.Seq.{take-suc, length-take-le}
-use Rattle.tariff.specs.Reply.{told}
-use Rattle.ledger.specs.declared.Place.{Place}
-use Rattle.ledger.specs.Day.{toldAll}
 use Rattle.printed.specs.Printed.{numbered}
 
 module _ {A : Type 0} (line : ℕ → A → List ℕ) where
@@ -27,16 +24,3 @@ module _ {A : Type 0} (line : ℕ → A → List ℕ) where
       ap (λ (n : ℕ). numbered line k (take i l) ++ line n (getD l i d)) (e ∙ ap (λ (n : ℕ). k + n) (sym (length-take-le i l (omega arith))))
       ∙ last-line k (take i l) (getD l i d)
       ∙ ap (numbered line k) (sym (ap (λ (n : ℕ). take n l) (add-one i) ∙ take-suc l i d h))
-
--- ---- the answers of a day's places
-
-pub told-length : (l : List Place) → length (toldAll l) ≡ length l
-unfolding toldAll
-told-length [] = refl
-told-length (p ∷ ps) = ap suc (told-length ps)
-
-pub told-at : (l : List Place) (k : ℕ) (p : Place) → k < length l → getD (toldAll l) k (told (p .answer)) ≡ told (getD l k p .answer)
-unfolding toldAll
-told-at [] k p h = refl
-told-at (x ∷ xs) zero p h = refl
-told-at (x ∷ xs) (suc k) p h = told-at xs k p (omega arith)

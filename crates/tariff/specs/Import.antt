@@ -37,10 +37,11 @@ curtailedInRange v =
 
 -- ---- the checks of a block, in their order. Line 1 has the hour, 2 the first interval
 
--- interval i, from 0; past the record's 30 places a line of zeros
+-- what stands past a block's intervals: zeros
 abbrev pub blankCurtailed : Curtailed
 blankCurtailed = record { s = seconds (pos 0); cut = pos 0; prof = kw (pos 0); rten = kw (pos 0); lbmp = price (pos 0); bid = price (pos 0); def = price (pos 0) }
 
+-- interval i, from 0
 abbrev pub curtailed : ImportHour → ℕ → Curtailed
 curtailed h i = getD (h .iv) i blankCurtailed
 

@@ -6,10 +6,11 @@ use borrow.Author.Needs.{needs}
 use lib.ListN.{length, take}
 use lib.Seq.{take-all}
 use Rattle.ledger.specs.Day.{toldAll}
+use Rattle.ledger.proofs.Places.{told-length, told-at}
 use Rattle.printed.specs.Page.{Put}
 use Rattle.printed.specs.Printed.{numbered, hourLine}
 use Rattle.printed.proofs.Pages.{put-none, put-then, put-as, put-length}
-use Rattle.printed.proofs.Numbered.{numbered-next, told-length, told-at}
+use Rattle.printed.proofs.Numbered.{numbered-next}
 use Rattle.printed.proofs.answers.put_hours.Statement.{statement}
 use Rattle.printed.proofs.answers.put_hours.Tie as tie
 
@@ -42,8 +43,8 @@ loop-again : tie.Need-loop-again Inv-loop μ-loop
 loop-again c =
     let s = c .before .before .before .before .before .before .before .before in
     let l = c .before .before .before .before .before .before .loop in
-    let e = told-length (s .args .t3) in
     let long : length (s .args .t3) ≡ 24 = s .good .1 .1 .0 .1 .0 .1 in
+    let all = told-length (s .args .t3) 24 long in
     put-as
     (numbered-next hourLine 0 (l .k) (l .k) (toldAll (s .args .t3)) _ (omega arith) (omega arith))
     (put-then (l .inv) (put-as (ap (hourLine (l .k)) (sym (told-at (s .args .t3) (l .k) _ (omega arith)))) (c .before .before .put-hour .ensures)))
@@ -54,8 +55,9 @@ same-length c = put-length (c .before .loop .inv)
 returns : tie.Need-returns Inv-loop μ-loop
 returns c =
     let s = c .before .before .before in
+    let all = told-length (s .args .t3) 24 (s .good .1 .1 .0 .1 .0 .1) in
     put-as
-    (ap (numbered hourLine 0) (take-all (c .before .loop .k) (toldAll (s .args .t3)) (let e = told-length (s .args .t3) in let long : length (s .args .t3) ≡ 24 = s .good .1 .1 .0 .1 .0 .1 in omega arith)))
+    (ap (numbered hourLine 0) (take-all (c .before .loop .k) (toldAll (s .args .t3)) (omega arith)))
     (c .before .loop .inv)
 
 pub put-hours-spec : {M : Type 1} → statement M
