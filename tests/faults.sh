@@ -1,7 +1,7 @@
 #!/bin/sh
 # Faults of the world around the programs: input that ends anywhere, that comes
 # slowly, that stays open, never ends or cannot be read, output that is closed
-# or full, and texts of 50 MB, in little memory.
+# or full, arguments, and texts of 50 MB, in little memory.
 #
 #   sh faults.sh PATH-OF-HOUR PATH-OF-DAY PATH-OF-IMPORT
 #
@@ -17,6 +17,7 @@ need "$1" "$2" "$3" "$release/hour2" "$release/day2" "$release/import2"
 work_in faults
 
 . "$here/faults/common.sh"
+. "$here/faults/arguments.sh"
 . "$here/faults/ends.sh"
 . "$here/faults/long.sh"
 . "$here/faults/sheet.sh"

@@ -31,17 +31,19 @@ take() {
     fi
 }
 
-# Runs the program for so many seconds at most.
+# Runs the program for so many seconds at most, with these arguments, if any.
 bare() (
     if [ "$limit" = yes ]; then
         ulimit -v "$memory"
     fi
-    within "$1" "$program"
+    seconds=$1
+    shift
+    within "$seconds" "$program" "$@"
 )
 
 # The same, and keeps what it writes.
 run() {
-    bare "$1" >"$work/got" 2>"$work/err"
+    bare "$@" >"$work/got" 2>"$work/err"
 }
 
 # Runs it on the file $1, written to a pipe that stays open until it has ended.
@@ -118,6 +120,11 @@ fill() {
 # 50 MB of this byte.
 fifty() {
     dd if=/dev/zero bs=1048576 count=50 2>/dev/null | tr '\0' "$1"
+}
+
+# 5 MB of it: enough for `hour`, which reads a byte or two at a time.
+five() {
+    dd if=/dev/zero bs=1048576 count=5 2>/dev/null | tr '\0' "$1"
 }
 
 # 50 MB of this line.

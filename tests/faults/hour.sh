@@ -1,4 +1,4 @@
-# `hour`: it stops at its block's empty line, and what follows is not read.
+# `hour`: it reads its block to the empty line, and what follows is not read.
 
 cp "$here/../samples/hour/sample.txt" "$work/block" || exit 2
 cp "$here/../samples/hour/sample.out" "$work/paid" || exit 2
@@ -61,30 +61,65 @@ stays_open() {
 }
 stays_open
 
+# --- Two of them on one input, one after the other: each reads its own block,
+# however long that is, and not a byte of the next.
+
+# The block in $work/front, which is refused for its form at line $1, and the
+# example behind it: from a file, and through a pipe.
+then_the_example() {
+    { echo "refused=1 at=$1"; cat "$work/paid"; } >"$work/want"
+    cat "$work/front" "$work/closed" >"$work/text"
+    { bare 20 && bare 20; } <"$work/text" >"$work/got" 2>"$work/err"
+    answered "$2, and the example"
+    cat "$work/text" | { bare 20 && bare 20; } >"$work/got" 2>"$work/err"
+    answered "$2, and the example, through a pipe"
+}
+
+one_after_the_other() {
+    echo >"$work/front"
+    then_the_example 1 "an empty line"
+    # Short lines, whose empty line begins with the first or with the second
+    # byte of a read; lines around what is kept of a block; and one far longer.
+    for letters in 1 2 3 4 16381 16382 16383 16384 16385 16386 20000; do
+        { fill "$letters" x; printf '\n\n'; } >"$work/front"
+        then_the_example 1 "a line of $letters letters"
+        { fill "$letters" x; printf '\ny\n\n'; } >"$work/front"
+        then_the_example 1 "two lines, the first of $letters letters"
+    done
+    # The first line that no good block has.
+    { grep -v '^s=' "$work/block"; yes "$(tail -n 1 "$work/block")" 2>/dev/null | head -n 500; echo; } >"$work/front"
+    then_the_example 34 "500 interval lines"
+}
+one_after_the_other
+
 # --- Both ends.
 echo "refused=1 at=1" >"$work/want"
 input_closed
 cp "$work/paid" "$work/want"
 output_closed "$work/closed"
 
-# --- Lines of 50 MB.
-echo "refused=1 at=1" >"$work/want"
-{ fifty a; echo; } | run 300
-answered "a line of 50 MB"
+if [ "$frugal" = yes ]; then
+    arguments "$work/block"
+fi
 
-fifty ' ' | run 300
-answered "50 MB of blanks and no end of the line"
+# --- Lines of 5 MB.
+echo "refused=1 at=1" >"$work/want"
+{ five a; echo; } | run 300
+answered "a line of 5 MB"
+
+five ' ' | run 300
+answered "5 MB of blanks and no end of the line"
 
 echo "refused=1 at=3" >"$work/want"
 {
     sed -n 1,2p "$work/block"
     printf 'rt='
-    fifty 7
+    five 7
     printf ' n=0\n'
     sed -n '4,$p' "$work/block"
 } | run 300
-answered "a number of 50 MB in line 3"
+answered "a number of 5 MB in line 3"
 
 cp "$work/paid" "$work/want"
-{ cat "$work/closed"; fifty a; } 2>/dev/null | run 300
-answered "50 MB behind the empty line"
+{ cat "$work/closed"; five a; } 2>/dev/null | run 300
+answered "5 MB behind the empty line"

@@ -142,6 +142,9 @@ sheet_cases() {
     input_closed
     cp "$work/paid" "$work/want"
     output_closed "$work/closed"
+    if [ "$frugal" = yes ]; then
+        arguments "$1"
+    fi
     long_blocks
     long_header
     edges

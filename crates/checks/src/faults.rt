@@ -1,13 +1,11 @@
 // Each of the checks 1 to 5, over the whole record.
 ghost use mathlib.Core.Path.{_≡_};
-ghost use mathlib.Core.Bool.{true};
-ghost use Prim.Native.Nat.{_+_, _<_, _≤_};
+ghost use Prim.Native.Nat.{_≤_};
 ghost use lib.IntN.{pos, _+ℤ_};
 ghost use Rattle.exact.specs.Whole.{Within, eqZ};
 ghost use Rattle.tariff.specs.Sheet.{curveKeeps};
 ghost use Rattle.tariff.specs.Reply.{shown, clear, unless};
 ghost use Rattle.tariff.specs.Hour.{form, range, order, curves, secondsSum};
-use crate::ranges;
 use tariff::Check;
 use tariff::Curve;
 use tariff::Expected;
@@ -36,7 +34,7 @@ pub fn range_fault(h: Hour) -> Found
     requires { ⌜ form h ≡ clear ⌝ }
     ensures { λ r. ⌜ shown r ≡ range h ⌝ }
 {
-    if !ranges::both(ranges::is_hour(h.hour), ranges::ahead_in_range(h.ahead)) {
+    if !(ranges::is_hour(h.hour) & ranges::ahead_in_range(h.ahead)) {
         return Found::Fault(Check::Range(1));
     }
     if !ranges::curve_in_range(h.da) {

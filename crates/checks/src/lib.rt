@@ -8,9 +8,8 @@ use tariff::Found;
 use tariff::Hour;
 use tariff::ImportHour;
 
+mod curtailed;
 mod faults;
-mod imports;
-mod ranges;
 
 // The first of the faults 1 to 5.
 pub fn block_fault(h: Hour, expected: Expected) -> Found
@@ -39,17 +38,17 @@ pub fn block_fault(h: Hour, expected: Expected) -> Found
 pub fn import_fault(h: ImportHour, k: usize) -> Found
     ensures { λ r. ⌜ shown r ≡ importFault h k ⌝ }
 {
-    let form = imports::form_fault(h);
+    let form = curtailed::form_fault(h);
     if let Found::Fault(check) = form {
         return Found::Fault(check);
     }
-    let range = imports::range_fault(h);
+    let range = curtailed::range_fault(h);
     if let Found::Fault(check) = range {
         return Found::Fault(check);
     }
-    let order = imports::order_fault(h, k);
+    let order = curtailed::order_fault(h, k);
     if let Found::Fault(check) = order {
         return Found::Fault(check);
     }
-    imports::seconds_fault(h)
+    curtailed::seconds_fault(h)
 }

@@ -8,7 +8,8 @@ use lib.ListN.{length}
 use Rattle.tariff.specs.declared.Answer.{Answer}
 use Rattle.tariff.specs.declared.Expected.{Expected}
 use Rattle.tariff.specs.Reply.{told}
-use Rattle.sheet.specs.Block.{blockOf, replyTo}
+use Rattle.blocks.specs.Block.{blockOf}
+use Rattle.sheet.specs.Settle.{replyTo}
 use Rattle.culvertjig.specs.Numbers.{expectedOf, replyOf}
 
 module _ (block : List ℕ) (isExcluded : Bool) (expected : ℤ) (row : List ℤ) where

@@ -9,7 +9,8 @@ use Rattle.exact.specs.Choice.{if_then_else_}
 use Rattle.tariff.specs.declared.Expected.{Expected}
 use Rattle.tariff.specs.declared.Expected.the-variants.{Any, Says}
 use Rattle.tariff.specs.Reply.{Reply, paid, refused}
-use Rattle.sheet.specs.Block.{blockOf, replyTo}
+use Rattle.blocks.specs.Block.{blockOf}
+use Rattle.sheet.specs.Settle.{replyTo}
 
 -- the hour that the block has to say; below 0 stands for any
 abbrev pub expectedOf : ℤ → Expected

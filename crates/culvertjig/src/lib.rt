@@ -1,6 +1,7 @@
 // The block call for callers in C or Rust, where a slice passes as a pointer and a length.
 ghost use mathlib.Core.Path.{_≡_};
-ghost use Rattle.sheet.specs.Block.{blockOf, rowTo};
+ghost use Rattle.blocks.specs.Block.{blockOf};
+ghost use Rattle.sheet.specs.Settle.{rowTo};
 ghost use Rattle.culvertjig.specs.Numbers.{expectedOf, replyOf, numberIn, placeIn, grainsIn, centsIn};
 use tariff::Answer;
 use tariff::Expected;

@@ -1,37 +1,54 @@
 -- The demands, on one page: of the programs `hour`, `day` and `import`, of the block call for other programs, and of what they settle.
 -- A text is a list of bytes, any bytes. Each demand is proved by citing what proves it; the words are document 01's, in specs/ of each crate.
+-- Witness.antt has small texts that meet the conditions, so that no theorem here is empty.
 use mathlib.Core.Path.{_≡_}
-use mathlib.Core.Bool.{Bool}
+use mathlib.Core.Bool.{Bool, false}
 use mathlib.Core.List.{List, [], _++_}
 use mathlib.Core.Logic.{_↔_}
 use Prim.Native.Nat.{ℕ, _+_, _<_, _≤_}
 use native.Mathlib.Omega.{arith}
 use lib.IntN.{ℤ, pos}
-use lib.ListN.{length, take}
+use lib.ListN.{length, take, getD}
 use Rattle.exact.specs.Whole.{sumTo}
 use Rattle.figures.specs.Table.{Holds, figures, figures-hold}
 use Rattle.tariff.specs.declared.Hour.{Hour}
 use Rattle.tariff.specs.declared.Expected.{Expected}
-use Rattle.tariff.specs.declared.Expected.the-variants.{Says}
+use Rattle.tariff.specs.declared.Expected.the-variants.{Any, Says}
 use Rattle.tariff.specs.Units.{centsOf}
-use Rattle.tariff.specs.Reply.{paid, refused, DERATE, REACH}
+use Rattle.tariff.specs.Reply.{paid, refused, DERATE, REACH, clear}
 use Rattle.tariff.specs.Hour.{contribution}
 use Rattle.tariff.specs.Eligible.{excluded}
-use Rattle.tariff.specs.Demand.{MustPrice, priceIn, FirstUnpriced, FirstExceeded, NoFaultTo4, NoFaultTo5, Extends}
+use Rattle.tariff.specs.Demand.{MustPrice, priceIn, FirstUnpriced, FirstExceeded, UnpricedBeforeDerate, ExceededBeforeReach, NoFaultTo4, NoFaultTo5, Passes, Extends}
 use Rattle.tariff.specs.Import as import
-use Rattle.tariff.proofs.Demands.{rounded-once}
+use Rattle.text.specs.Text.{bytes}
 use Rattle.lines.specs.Pieces.{restAfter, piece}
 use Rattle.intake.specs.declared.Intake.{Intake}
 use Rattle.intake.specs.Intake.{keptOf, afterAll, rowAll, atFirst}
 use Rattle.intake.proofs.Kept.{parts, room-row}
-use Rattle.sheet.specs.Block.{blockOf, read, replyTo, rowTo}
+use Rattle.blocks.specs.Block.{blockOf, read}
+use Rattle.sheet.specs.Settle.{replyTo, rowTo}
 use Rattle.sheet.specs.Apart.{CurvesApart}
 use Rattle.sheet.specs.Closed.{Closed}
-use Rattle.sheet.proofs.BlockDemands.{only-needed-prices-of-blocks-matter, block-reach-exactly-when-unpriced, block-derate-exactly-when-exceeded, adding-curve-to-a-block-changes-nothing}
-use Rattle.header.specs.Header.{marksOf}
-use Rattle.ledger.specs.Day.{bodyOf, dayReply, total, dayTotal}
+use Rattle.sheet.specs.Print.{textOf}
+use Rattle.spelling.specs.Spelt.{Bytes, IsText}
+use Rattle.spelling.proofs.Spelling.{a-block-that-is-read-is-its-text}
+use Rattle.sheet.proofs.BlockDemands.{
+  only-needed-prices-of-blocks-matter,
+  block-reach-exactly-when-unpriced,
+  block-derate-exactly-when-exceeded,
+  block-refused-for-reach-exactly-when-some-kilowatt-is-unpriced,
+  block-refused-for-derate-exactly-when-some-reduction-exceeds,
+  adding-curve-to-a-block-changes-nothing,
+}
+use Rattle.header.specs.Header.{headerFault, marksOf}
+use Rattle.ledger.specs.Day.{bodyOf, dayReply, dayTotal}
+use Rattle.tariff.specs.Total.{total}
 use Rattle.ledger.specs.Demand.{centsIn, Pays, PricedAlike, DaysApart}
-use Rattle.ledger.proofs.DayDemands.{only-needed-prices-of-a-day-matter, adding-curve-to-a-day-changes-nothing, the-total-is-the-sum-of-what-is-printed}
+use Rattle.ledger.proofs.DayDemands.{
+  an-hour-is-refused-for-reach-exactly-when-some-kilowatt-is-unpriced,
+  an-hour-is-refused-for-derate-exactly-when-some-reduction-exceeds,
+  the-total-is-the-sum-of-what-is-printed,
+}
 use Rattle.imports.specs.Import.{importReply}
 use Rattle.imports.specs.Demand.{PaidBy}
 use Rattle.imports.proofs.ImportDemands.{paid-exactly-when-unrefused}
@@ -39,13 +56,18 @@ use Rattle.printed.specs.Printed.{hourText, dayText, importText}
 use Rattle.printed.proofs.Fits.{hour-fits, day-fits, import-fits}
 use Rattle.sheet.proofs.settle_block.Statement as block
 use Rattle.sheet.proofs.settle_block.Met as block-is
+use Rattle.culvertjig.proofs.culvertjig_block.Statement as library
+use Rattle.culvertjig.proofs.culvertjig_block.Met as library-is
 use Rattle.printed.proofs.hour_text.Statement as hour
 use Rattle.printed.proofs.hour_text.Met as hour-is
 use Rattle.printed.proofs.day_text.Statement as day
 use Rattle.printed.proofs.day_text.Met as day-is
 use Rattle.printed.proofs.import_text.Statement as import-day
 use Rattle.printed.proofs.import_text.Met as import-is
-use Rattle.demands.proofs.Printed.{kept-hour, kept-day, kept-import, closed-hour, alike-days, refused-block}
+use Rattle.demands.specs.Listing.{listing}
+use Rattle.demands.proofs.Blocks.{paid-block, row-of-a-paid, row-of-a-refused}
+use Rattle.demands.proofs.Printed.{kept-hour, kept-day, kept-import, closed-hour, priced-hour, longer-hour, priced-day, longer-day}
+use Rattle.demands.proofs.Listing.{listing-printed, short-printed}
 
 -- ==== 1. Every sheet, good or bad, gets an answer and the program stops
 
@@ -53,6 +75,10 @@ use Rattle.demands.proofs.Printed.{kept-hour, kept-day, kept-import, cl
 -- a `requires`.
 pub the-block-call-answers : {M : Type 1} → block.statement M
 the-block-call-answers = block-is.met
+
+-- `culvertjig_block`, which programs in C and Rust link.
+pub the-library-call-answers : {M : Type 1} → library.statement M
+the-library-call-answers = library-is.met
 
 pub hour-answers : {M : Type 1} → hour.statement M
 hour-answers = hour-is.met
@@ -67,17 +93,17 @@ import-answers = import-is.met
 pub no-answer-is-cut : (s : List ℕ) → (length (hourText s) ≤ 2048) × (length (dayText 24 s) ≤ 2048) × (length (importText 24 s) ≤ 2048)
 no-answer-is-cut s = (hour-fits s, day-fits 24 s (omega arith), import-fits 24 s)
 
--- However long a text is, what a program keeps of it in bounded memory gives the same bytes.
+-- Of texts, not of reading: however long a text is, the bounded part of it that a program keeps gives the same bytes.
 pub what-is-kept-decides :
     (s : List ℕ)
     → (hourText (take 16384 s) ≡ hourText s) × (dayText 24 (keptOf (atFirst 25) s) ≡ dayText 24 s) × (importText 24 (keptOf (atFirst 25) s) ≡ importText 24 s)
 what-is-kept-decides s = (kept-hour s, kept-day 24 s (omega arith), kept-import 24 s)
 
--- `hour` reads up to the empty line that closes its block: what follows never changes a byte of its answer.
+-- What follows in a text behind the empty line that closes its first block never changes a byte of `hour`'s answer to it.
 pub hour-stops-at-the-empty-line : (s behind : List ℕ) → Closed s → hourText (s ++ behind) ≡ hourText s
 hour-stops-at-the-empty-line = closed-hour
 
--- What a program keeps is in its row of 409,680 bytes when the input has ended, in whatever parts the input came.
+-- A text that is taken in byte by byte leaves what is kept of it in a row of 409,680 bytes, in whatever parts the text comes.
 pub the-row-holds-what-is-kept :
     (row s : List ℕ)
     → 409679 ≤ length row
@@ -94,7 +120,11 @@ pub a-refusal-leaves-the-row :
     (s : List ℕ) (isExcluded : Bool) (expected : Expected) (row : List ℤ) (number place : ℕ)
     → replyTo (blockOf s) isExcluded expected (length row) ≡ refused number place
     → rowTo (blockOf s) isExcluded expected row ≡ row
-a-refusal-leaves-the-row s = refused-block (blockOf s)
+a-refusal-leaves-the-row s = row-of-a-refused (blockOf s)
+
+-- What is accepted is what is printed: a block that is read is the printed text of its record, closed by the end or by an empty line.
+pub what-is-read-is-what-is-printed : (s : List ℕ) (h : Hour) → Bytes s → blockOf s ≡ read h → IsText s (textOf h)
+what-is-read-is-what-is-printed = a-block-that-is-read-is-its-text
 
 -- ==== 2. Every contribution and payment is Attachment J's, in whole units, rounded only where document 01 says
 
@@ -102,13 +132,31 @@ a-refusal-leaves-the-row s = refused-block (blockOf s)
 pub the-figures-hold : Holds figures
 the-figures-hold = figures-hold
 
--- An hour: its sum is that of its contributions, and becomes cents once.
+-- From end to end: document 01's listing, as bytes, prints document 01's five lines, as bytes; and with `to=99999` in line 2, the refusal.
+pub the-listing-prints-its-five-lines :
+    hourText (listing (bytes "100000")) ≡ bytes "i=1 grains=27000000000\ni=2 grains=72900000000\ni=3 grains=-9000000000\ni=4 grains=0\nhour=14 pay=25250\n"
+the-listing-prints-its-five-lines = listing-printed
+
+pub the-listing-cut-short-prints-its-refusal : hourText (listing (bytes "99999")) ≡ bytes "refused=7 at=1\n"
+the-listing-cut-short-prints-its-refusal = short-printed
+
+-- An hour: it is paid exactly when its block is read and no check refuses it, with the sum of its contributions, which becomes cents once.
 pub an-hour-pays-its-contributions :
-    (s : List ℕ) (h : Hour) (isExcluded : Bool) (expected : Expected) (room : ℕ) (sum cents : ℤ)
+    (s : List ℕ) (isExcluded : Bool) (expected : Expected) (room : ℕ) (sum cents : ℤ)
+    → (replyTo (blockOf s) isExcluded expected room ≡ paid sum cents)
+    ↔ ((h : Hour) × (blockOf s ≡ read h) × Passes h isExcluded expected room
+    × (sum ≡ sumTo (contribution h isExcluded) (h .n)) × (cents ≡ centsOf (sumTo (contribution h isExcluded) (h .n))))
+an-hour-pays-its-contributions s = paid-block (blockOf s)
+
+-- Then the first entries of the lent row, one per interval, are their contributions, and later ones are as before.
+pub a-paid-row-holds-each-contribution :
+    (s : List ℕ) (h : Hour) (isExcluded : Bool) (expected : Expected) (row : List ℤ) (sum cents : ℤ)
     → blockOf s ≡ read h
-    → replyTo (blockOf s) isExcluded expected room ≡ paid sum cents
-    → (sum ≡ sumTo (contribution h isExcluded) (h .n)) × (cents ≡ centsOf (sumTo (contribution h isExcluded) (h .n)))
-an-hour-pays-its-contributions s h isExcluded expected room sum cents b e = rounded-once h isExcluded expected room sum cents (rw b at e)
+    → replyTo (blockOf s) isExcluded expected (length row) ≡ paid sum cents
+    → ((i : ℕ) → i < h .n → getD (rowTo (blockOf s) isExcluded expected row) i (pos 0) ≡ contribution h isExcluded i)
+    × ((i : ℕ) → h .n ≤ i → getD (rowTo (blockOf s) isExcluded expected row) i (pos 0) ≡ getD row i (pos 0))
+    × (length (rowTo (blockOf s) isExcluded expected row) ≡ length row)
+a-paid-row-holds-each-contribution s = row-of-a-paid (blockOf s)
 
 -- A day: the cents of its hours, where every hour is paid and nothing follows the last block.
 pub a-day-pays-its-hours :
@@ -136,6 +184,18 @@ pub only-those-prices-matter :
     → (replyTo (blockOf s) isExcluded expected (length row) ≡ replyTo (blockOf t) isExcluded expected (length row)) × (rowTo (blockOf s) isExcluded expected row ≡ rowTo (blockOf t) isExcluded expected row)
 only-those-prices-matter = only-needed-prices-of-blocks-matter
 
+-- So `hour` prints the same bytes of them, contributions included.
+pub such-blocks-are-printed-alike :
+    (s t : List ℕ) (h g : Hour)
+    → CurvesApart s t
+    → blockOf s ≡ read h
+    → blockOf t ≡ read g
+    → NoFaultTo4 h Any
+    → NoFaultTo4 g Any
+    → ((i : ℕ) (k : ℤ) → MustPrice h false i k → priceIn h i k ≡ priceIn g i k)
+    → hourText s ≡ hourText t
+such-blocks-are-printed-alike = priced-hour
+
 -- And two days of such blocks are printed alike, byte for byte.
 pub such-days-are-printed-alike :
     (hours : ℕ) (s t : List ℕ)
@@ -145,18 +205,50 @@ pub such-days-are-printed-alike :
     → blockOf (piece k (bodyOf hours t)) ≡ read g
     → PricedAlike h g (excluded hours (marksOf hours s) k) (Says (pos k)))
     → dayText hours s ≡ dayText hours t
-such-days-are-printed-alike hours s t apart priced = alike-days hours s t apart (only-needed-prices-of-a-day-matter hours s t apart priced)
+such-days-are-printed-alike = priced-day
 
--- An hour is refused for reach exactly when no check from 1 to 5 refuses it and such a kilowatt has no price, at the first interval that
--- has one, and no derate refusal comes first.
+-- An hour is refused for reach exactly when no check from 1 to 5 refuses it, such a kilowatt has no price in some interval, and no derate
+-- refusal falls in that interval or before it.
+pub refused-for-reach-exactly-when-some-interval-lacks-such-a-price :
+    (s : List ℕ) (h : Hour) (isExcluded : Bool) (expected : Expected) (room : ℕ)
+    → blockOf s ≡ read h
+    → ((place : ℕ) × (replyTo (blockOf s) isExcluded expected room ≡ refused REACH place)) ↔ (NoFaultTo5 h expected × UnpricedBeforeDerate h isExcluded)
+refused-for-reach-exactly-when-some-interval-lacks-such-a-price = block-refused-for-reach-exactly-when-some-kilowatt-is-unpriced
+
+-- So is hour k of a day, which is excluded as the day's marks say.
+pub refused-for-reach-in-a-day-exactly-when-some-interval-lacks-such-a-price :
+    (hours : ℕ) (s : List ℕ)
+    → headerFault hours s ≡ clear
+    → (k : ℕ) (h : Hour)
+    → blockOf (piece k (bodyOf hours s)) ≡ read h
+    → ((place : ℕ) × (dayReply hours s k ≡ refused REACH place)) ↔ (NoFaultTo5 h (Says (pos k)) × UnpricedBeforeDerate h (excluded hours (marksOf hours s) k))
+refused-for-reach-in-a-day-exactly-when-some-interval-lacks-such-a-price = an-hour-is-refused-for-reach-exactly-when-some-kilowatt-is-unpriced
+
+-- Its place is the first interval with such a kilowatt, from 1.
 pub reach-exactly-when-such-a-kilowatt-has-no-price :
     (s : List ℕ) (h : Hour) (isExcluded : Bool) (expected : Expected) (room i : ℕ)
     → blockOf s ≡ read h
     → (replyTo (blockOf s) isExcluded expected room ≡ refused REACH (i + 1)) ↔ (NoFaultTo5 h expected × FirstUnpriced h isExcluded i)
 reach-exactly-when-such-a-kilowatt-has-no-price = block-reach-exactly-when-unpriced
 
--- And for derate exactly when no check from 1 to 5 refuses it and the reduction of an eligible interval exceeds the room for it, at the
--- first such interval, and no reach refusal comes first.
+-- An hour is refused for derate exactly when no check from 1 to 5 refuses it, the reduction of some eligible interval exceeds the room for
+-- it, and no reach refusal falls before that interval.
+pub refused-for-derate-exactly-when-some-reduction-exceeds-its-room :
+    (s : List ℕ) (h : Hour) (isExcluded : Bool) (expected : Expected) (room : ℕ)
+    → blockOf s ≡ read h
+    → ((place : ℕ) × (replyTo (blockOf s) isExcluded expected room ≡ refused DERATE place)) ↔ (NoFaultTo5 h expected × ExceededBeforeReach h isExcluded)
+refused-for-derate-exactly-when-some-reduction-exceeds-its-room = block-refused-for-derate-exactly-when-some-reduction-exceeds
+
+-- So is hour k of a day.
+pub refused-for-derate-in-a-day-exactly-when-some-reduction-exceeds-its-room :
+    (hours : ℕ) (s : List ℕ)
+    → headerFault hours s ≡ clear
+    → (k : ℕ) (h : Hour)
+    → blockOf (piece k (bodyOf hours s)) ≡ read h
+    → ((place : ℕ) × (dayReply hours s k ≡ refused DERATE place)) ↔ (NoFaultTo5 h (Says (pos k)) × ExceededBeforeReach h (excluded hours (marksOf hours s) k))
+refused-for-derate-in-a-day-exactly-when-some-reduction-exceeds-its-room = an-hour-is-refused-for-derate-exactly-when-some-reduction-exceeds
+
+-- Its place is the first such interval, from 1.
 pub derate-exactly-when-a-reduction-exceeds-its-room :
     (s : List ℕ) (h : Hour) (isExcluded : Bool) (expected : Expected) (room i : ℕ)
     → blockOf s ≡ read h
@@ -177,6 +269,19 @@ pub adding-curve-never-moves-a-cent :
     → (replyTo (blockOf t) isExcluded expected (length row) ≡ paid sum cents) × (rowTo (blockOf t) isExcluded expected row ≡ rowTo (blockOf s) isExcluded expected row)
 adding-curve-never-moves-a-cent = adding-curve-to-a-block-changes-nothing
 
+-- Every byte that `hour` prints stays.
+pub adding-curve-changes-no-byte-of-an-hour :
+    (s t : List ℕ) (h g : Hour)
+    → CurvesApart s t
+    → blockOf s ≡ read h
+    → blockOf t ≡ read g
+    → NoFaultTo4 g Any
+    → Extends (h .da) (g .da)
+    → Extends (h .rt) (g .rt)
+    → Pays (replyTo (blockOf s) false Any 30)
+    → hourText s ≡ hourText t
+adding-curve-changes-no-byte-of-an-hour = longer-hour
+
 -- Nor to a day whose hours are all paid: every byte that is printed stays.
 pub adding-curve-to-a-day-never-moves-a-cent :
     (hours : ℕ) (s t : List ℕ)
@@ -187,5 +292,4 @@ pub adding-curve-to-a-day-never-moves-a-cent :
     → blockOf (piece k (bodyOf hours t)) ≡ read g
     → NoFaultTo4 g (Says (pos k)) × Extends (h .da) (g .da) × Extends (h .rt) (g .rt))
     → dayText hours s ≡ dayText hours t
-adding-curve-to-a-day-never-moves-a-cent hours s t apart pays longer =
-    alike-days hours s t apart (adding-curve-to-a-day-changes-nothing hours s t apart pays longer)
+adding-curve-to-a-day-never-moves-a-cent = longer-day

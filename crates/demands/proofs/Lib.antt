@@ -1,3 +1,9 @@
--- The demands on one page, and the laws that carry theorems of answers over to what is printed.
+-- The demands on one page, the laws that carry theorems over to the texts that are read and printed, document 01's listing from end to end,
+-- and small texts that meet the page's conditions.
+pub mod Blocks
 pub mod Printed
+pub mod Opened
+pub mod Listing
+pub mod Taken
 pub mod Demands
+pub mod Witness

@@ -6,4 +6,5 @@ pub mod Bits
 pub mod Sums
 pub mod Tests
 pub mod Calls
+pub mod Held
 pub mod Unique

@@ -13,11 +13,11 @@ use Rattle.text.specs.Text.{byteAt}
 use Rattle.text.specs.declared.Next.{Next}
 use Rattle.text.specs.declared.Next.the-variants.{At, Wrong}
 use Rattle.text.proofs.Keys.{either-way}
-use Rattle.lines.specs.Keys.{keys, keyOf}
+use Rattle.keys.specs.Keys.{keys, keyOf}
 use Rattle.lines.specs.Line.{lineAt}
 use Rattle.lines.specs.Cut.{emptyIn, behind}
 use Rattle.lines.proofs.Along.{closing, never-at}
-use Rattle.lines.proofs.Table.{table-at}
+use Rattle.keys.proofs.AllKeys.{table-at}
 use Rattle.lines.proofs.Ended.{opens, key-closed, fields-closed}
 use Rattle.lines.proofs.Cut.{behind-at}
 use Rattle.lines.proofs.Passed.{feed-empty, pass}

@@ -17,7 +17,7 @@ use Rattle.text.specs.Text.{byteAt, keyAt}
 use Rattle.text.specs.Number.{digitAt}
 use Rattle.text.specs.declared.Next.{Next}
 use Rattle.text.specs.declared.Next.the-variants.{At, Wrong}
-use Rattle.lines.specs.Keys.{keyOf}
+use Rattle.keys.specs.Keys.{keyOf}
 use Rattle.lines.specs.Line.{isAt, andThen, afterFields, lineFeed, lineAt}
 use Rattle.lines.proofs.Along.{closing, Along, Moved, both, neither, choose, never-at, went, moved-then, digit-same, digit-on, key-printed, key-along, fields-along}
 use Rattle.lines.proofs.Ended.{feed-ends, feed-along}

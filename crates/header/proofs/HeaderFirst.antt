@@ -11,11 +11,10 @@ use Rattle.tariff.proofs.Checks.{fault-first}
 use Rattle.text.specs.Text.{byteAt, keyAt}
 use Rattle.text.specs.Number.{digitAt}
 use Rattle.text.specs.declared.Next.{Next}
-use Rattle.lines.specs.Keys.{keyOf}
+use Rattle.keys.specs.Keys.{keyOf}
 use Rattle.lines.specs.Line.{isAt, placeIn, andThen}
 use Rattle.lines.specs.Pieces.{firstPiece}
-use Rattle.lines.proofs.Along.{closing, Along, Moved, both, neither, unmoved, unmoved-within, moved-then}
-use Rattle.lines.proofs.Along.{key-printed, digit-same, key-along, values-along}
+use Rattle.lines.proofs.Along.{closing, Along, Moved, both, neither, unmoved, unmoved-within, moved-then, key-printed, digit-same, key-along, values-along}
 use Rattle.lines.proofs.Ended.{feed-along, both-end, last-or}
 use Rattle.lines.proofs.Pieces.{Shares, whole, empty, lines, piece-shares}
 use Rattle.header.specs.Header.{headerLine, linePlace, numberFrom, numberOn, digitOn, headerForm, headerRange, headerFault, marksUnder}

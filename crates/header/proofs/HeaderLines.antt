@@ -14,7 +14,7 @@ use Rattle.tariff.proofs.Checks.{clear-first, fault-first}
 use Rattle.text.specs.Text.{keyAt}
 use Rattle.text.specs.declared.Next.{Next}
 use Rattle.text.specs.declared.Next.the-variants.{At, Wrong}
-use Rattle.lines.specs.Keys.{keyOf}
+use Rattle.keys.specs.Keys.{keyOf}
 use Rattle.lines.specs.Line.{isAt, placeIn, andThen, lineFeed, lineAt, filled}
 use Rattle.lines.proofs.Fill.{filled-at, fill-next}
 use Rattle.header.specs.Header.{digitsAt, rowAt, headerLine, linePlace, headerForm, headerRange, headerFault, digitOn, marksOf}

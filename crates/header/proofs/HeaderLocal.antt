@@ -10,7 +10,7 @@ use Rattle.tariff.specs.Sheet.{allTo}
 use Rattle.tariff.proofs.Tests.{all-same}
 use Rattle.text.specs.Text.{byteAt, keyAt}
 use Rattle.text.specs.declared.Next.{Next}
-use Rattle.lines.specs.Keys.{keyOf}
+use Rattle.keys.specs.Keys.{keyOf}
 use Rattle.lines.proofs.Agree.{SamePlace, goes, stops, either, goes-on, same-place, key-short, digit, key-same, value, feed, line}
 use Rattle.header.specs.Header.{digitsAt, rowAt, headerLine, linePlace, numberFrom, numberOn, digitFrom, digitOn}
 use Rattle.header.proofs.Digits.{isDigit}

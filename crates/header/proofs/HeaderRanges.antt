@@ -18,7 +18,7 @@ use Rattle.tariff.proofs.Checks.{clear-first, fault-first}
 use Rattle.tariff.proofs.Tests.{all-at}
 use Rattle.text.specs.Text.{byteAt, keyAt}
 use Rattle.text.specs.Number.{digitAt}
-use Rattle.lines.specs.Keys.{keyOf}
+use Rattle.keys.specs.Keys.{keyOf}
 use Rattle.lines.specs.Line.{placeIn}
 use Rattle.header.specs.Header.{numberOn, digitOn, isCategory, isBit, headerInRange, headerRange}
 use Rattle.header.specs.Places.{Stands, refusedAt, numberFits}

@@ -15,7 +15,7 @@ use Rattle.text.specs.Number.{digitAt}
 use Rattle.text.specs.declared.Next.{Next}
 use Rattle.text.specs.declared.Next.the-variants.{At, Wrong}
 use Rattle.text.proofs.Numbers.{byte-inside}
-use Rattle.lines.specs.Keys.{keyOf}
+use Rattle.keys.specs.Keys.{keyOf}
 use Rattle.lines.specs.Line.{isAt, placeIn, andThen, valueIn, lineFeed}
 use Rattle.lines.proofs.Ended.{feed-ends}
 use Rattle.header.specs.Header.{digitsAt, rowAt, headerLine, linePlace, numberFrom, numberOn, digitFrom, digitOn}

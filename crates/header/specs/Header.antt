@@ -16,7 +16,7 @@ use Rattle.text.specs.declared.Next.{Next}
 use Rattle.text.specs.declared.Next.the-variants.{At, Wrong}
 use Rattle.text.specs.Text.{keyAt}
 use Rattle.text.specs.Number.{digitAt}
-use Rattle.lines.specs.Keys.{keyOf}
+use Rattle.keys.specs.Keys.{keyOf}
 use Rattle.lines.specs.Line.{isAt, placeIn, andThen, valueIn, lineFeed, lineAt}
 use Rattle.marks.specs.Word.{word}
 

@@ -5,7 +5,7 @@ ghost use lib.IntN.{pos};
 ghost use Rattle.exact.specs.Whole.{eqZ};
 ghost use Rattle.tariff.specs.Reply.{RANGE};
 ghost use Rattle.text.specs.Text.{keyAt};
-ghost use Rattle.lines.specs.Keys.{keyOf};
+ghost use Rattle.keys.specs.Keys.{keyOf};
 ghost use Rattle.lines.specs.Line.{placeIn, valueIn, filled};
 ghost use Rattle.header.specs.Header.{headerLine, headerInRange, headerRange, digitOn, rowWord};
 ghost use Rattle.header.specs.Places.{Stands, Placed, refusedAt, PlacesRead, numberFits, marksHeld};
@@ -29,7 +29,7 @@ pub fn line_at(s: &[u8], at: usize, j: usize, hours: usize) -> Next
         return lines::line_end(s, next);
     }
     if j < 10 {
-        let key = lines::key_number(s, at, 48 + j);
+        let key = keys::key_number(s, at, 48 + j);
         return lines::line_end(s, rows::digits_after(s, key, hours));
     }
     lines::line_end(s, Next::At(at))
@@ -67,7 +67,7 @@ pub fn row_start(s: &[u8], at: usize, j: usize) -> usize
     requires { ⌜ j < 10 ⌝ }
     ensures { λ r. ⌜ r ≡ placeIn (keyAt (keyOf (48 + j)) (now (s .entry)) at) ⌝ }
 {
-    match lines::key_number(s, at, 48 + j) {
+    match keys::key_number(s, at, 48 + j) {
         Next::At(start) => start,
         Next::Wrong => 0,
     }

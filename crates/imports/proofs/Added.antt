@@ -20,20 +20,15 @@ use Rattle.lines.specs.Cut.{behind}
 use Rattle.lines.specs.Pieces.{restAfter, isSome}
 use Rattle.lines.proofs.Pieces.{some-left, none-left}
 use Rattle.imports.specs.Import.{ImportBlock, broken, read, importBlockAt, partFrom, partAt}
+use Rattle.imports.specs.Read.{handedOn}
 
 -- ---- the refusal of a block, handed on
 
-pub refusal : (a : Worth) (check : Check) (k number place : ℕ) → a ≡ worth.Refused check → worthTold a ≡ stopped number place
-    → refused (numberOf check) (inHour k) (placeOf check) ≡ refused number (inHour k) place
-refusal a check k number place p e =
-    let q : stopped (numberOf check) (placeOf check) ≡ stopped number place = sym (ap worthTold p) ∙ e in
-    cc
+pub refusal : (a : Worth) (check : Check) (k : ℕ) → a ≡ worth.Refused check → refused (numberOf check) (inHour k) (placeOf check) ≡ handedOn (worthTold a) k
+refusal a check k e = rw e
 
-pub never-refused : (a : Worth) (g : Grains) (number place : ℕ) → a ≡ worth.Part g → worthTold a ≡ stopped number place → ⊥
-never-refused a g number place p e =
-    let q : part (g .0) ≡ stopped number place = sym (ap worthTold p) ∙ e in
-    let z : _≡_ {A = ℕ} 0 1 = cc in
-    omega arith
+pub no-refusal : (a : Worth) (g : Grains) (k : ℕ) → a ≡ worth.Part g → refused 1 (inHour k) 0 ≡ handedOn (worthTold a) k
+no-refusal a g k e = rw e
 
 -- ---- a part keeps within its bound
 

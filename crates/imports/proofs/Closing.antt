@@ -14,7 +14,8 @@ use Rattle.lines.proofs.Along.{closing, Moved, both, neither}
 use Rattle.lines.proofs.Ended.{Ended, line-closed, line-ended, values-ended}
 use Rattle.lines.proofs.RowsEnded.{each-ended, rows-ended}
 use Rattle.lines.proofs.BlockEnds as ends
-use Rattle.imports.specs.Import.{curtailedOf, curtailedAt, ImportBlock, broken, withCurtailed, afterImportLine1, importBlockAt}
+use Rattle.records.specs.Records.{curtailedOf}
+use Rattle.imports.specs.Import.{curtailedAt, ImportBlock, broken, withCurtailed, afterImportLine1, importBlockAt}
 
 -- the rest of a block, from its counted lines
 rest-same : (v : ℕ → ℤ) (s t : List ℕ) (a b : ℕ) (r : Rows) → curtailedAt s a ≡ curtailedAt t b → withCurtailed v s a r ≡ withCurtailed v t b r

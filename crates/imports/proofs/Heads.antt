@@ -5,49 +5,73 @@ use mathlib.Core.List.{List}
 use Prim.Native.Nat.{ℕ, _≤_}
 use lib.IntN.{ℤ}
 use lib.ListN.{length, drop}
+use Rattle.exact.proofs.Unique.{one}
+use Rattle.tariff.specs.declared.Check.{Check}
 use Rattle.tariff.specs.declared.Check.the-variants.{Form, Range}
-use Rattle.tariff.specs.declared.Found.the-variants.{Nothing, Fault}
-use Rattle.tariff.specs.Reply.{clear, fault, shown}
+use Rattle.tariff.specs.declared.Found.the-variants.{Nothing}
+use Rattle.tariff.specs.Reply.{clear, fault, numberOf, placeOf}
 use Rattle.tariff.specs.Import.{isMark, isName, partsTo, ImportReply, refused, outside, settled}
-use Rattle.tariff.proofs.Checks.{never-clear}
+use Rattle.tariff.proofs.Demands.{one-finding}
 use Rattle.text.specs.declared.Next.the-variants.{At, Wrong}
 use Rattle.lines.specs.Line.{placeIn, lineFeed}
 use Rattle.lines.specs.Pieces.{restAfter, isSome}
 use Rattle.lines.proofs.Ended.{feed-inside}
 use Rattle.imports.specs.declared.head.Head.{Head}
 use Rattle.imports.specs.Import.{headLine, headPlace, nameIn, ctsIn, headFault, partAt, importReply}
-use Rattle.imports.specs.Read.{HeadRead}
+use Rattle.imports.specs.Read.{HeadRead, refusedHead}
 
 module _ (s : List ℕ) where
   -- a head that is refused
-  refusedBy : (number place : ℕ) (r : Head) → headFault s ≡ fault number place → shown (r .found) ≡ fault number place → HeadRead s r
-  refusedBy number place r e f =
-      let no : headFault s ≡ clear → ⊥ = λ z. never-clear (sym e ∙ z) in
-      record { found = f ∙ sym e; name = λ z. absurd (no z); cts = λ z. absurd (no z); next = λ z. absurd (no z) }
+  refusedBy : (check : Check) (r : Head) → headFault s ≡ fault (numberOf check) (placeOf check) → r ≡ refusedHead check → HeadRead s r
+  refusedBy check r e f = rw f (record { found = sym e; name = rw e; cts = rw e; next = rw e })
 
-  pub head-line1 : (r : Head) → headLine s ≡ Wrong → r .found ≡ Fault (Form 1) → HeadRead s r
+  pub head-line1 : (r : Head) → headLine s ≡ Wrong → r ≡ refusedHead (Form 1) → HeadRead s r
   unfolding headFault
-  head-line1 r e f = refusedBy 1 1 r (rw e) (ap shown f)
+  head-line1 r e f = refusedBy (Form 1) r (rw e) f
 
   module _ (second : ℕ) (e1 : headLine s ≡ At second) where
-    pub head-line2 : (r : Head) → lineFeed s second ≡ Wrong → r .found ≡ Fault (Form 2) → HeadRead s r
+    pub head-line2 : (r : Head) → lineFeed s second ≡ Wrong → r ≡ refusedHead (Form 2) → HeadRead s r
     unfolding headFault headPlace
-    head-line2 r e f = refusedBy 1 2 r (rw (e1, e)) (ap shown f)
+    head-line2 r e f = refusedBy (Form 2) r (rw (e1, e)) f
 
     module _ (next : ℕ) (e2 : lineFeed s second ≡ At next) where
       head-place : headPlace s ≡ At next
       unfolding headPlace
       head-place = rw (e1, e2)
 
-      pub head-range : (r : Head) → (isName (nameIn s) && isMark (ctsIn s)) ≡ false → r .found ≡ Fault (Range 1) → HeadRead s r
+      pub head-range : (r : Head) → (isName (nameIn s) && isMark (ctsIn s)) ≡ false → r ≡ refusedHead (Range 1) → HeadRead s r
       unfolding headFault
-      head-range r e f = refusedBy 2 1 r (rw (e1, head-place, e)) (ap shown f)
+      head-range r e f = refusedBy (Range 1) r (rw (e1, head-place, e)) f
+
+      head-clear : (isName (nameIn s) && isMark (ctsIn s)) ≡ true → headFault s ≡ clear
+      unfolding headFault
+      head-clear e = rw (e1, head-place, e)
 
       pub head-said : (name cts : ℤ) → (isName (nameIn s) && isMark (ctsIn s)) ≡ true → name ≡ nameIn s → cts ≡ ctsIn s
           → HeadRead s (record { found = Nothing; name = name; cts = cts; next = next })
-      unfolding headFault
       head-said name cts e p q =
-          record { found = rw (e1, head-place, e); name = λ z. p; cts = λ z. q; next = λ z. sym (ap placeIn head-place) }
+          let c = head-clear e in
+          record { found = sym c; name = rw c p; cts = rw c q; next = rw c (sym (ap placeIn head-place)) }
+
+  -- what lines that are not refused say
+  module _ (r : Head) (h : HeadRead s r) (c : headFault s ≡ clear) where
+    pub said-name : r .name ≡ nameIn s
+    said-name = h .name ∙ rw c
+
+    pub said-cts : r .cts ≡ ctsIn s
+    said-cts = h .cts ∙ rw c
+
+    pub said-next : r .next ≡ placeIn (headPlace s)
+    said-next = h .next ∙ rw c
+
+-- no two different heads are read of one text
+pub one-head : (s : List ℕ) (r t : Head) → HeadRead s r → HeadRead s t → r ≡ t
+one-head s r t p q =
+    let found = one-finding (r .found) (t .found) _ (p .found) (q .found) in
+    let name = one (r .name) (t .name) (p .name) (q .name) in
+    let cts = one (r .cts) (t .cts) (p .cts) (q .cts) in
+    let next = one (r .next) (t .next) (p .next) (q .next) in
+    λ i. record { found = found i; name = name i; cts = cts i; next = next i }
 
 -- ---- the place behind them is in the text
 

@@ -15,7 +15,8 @@ use Rattle.lines.specs.Rows.{Rows}
 use Rattle.lines.proofs.Fill.{filled-same}
 use Rattle.lines.proofs.Agree.{SamePlace, goes, stops, value, line}
 use Rattle.lines.proofs.RowsAgree.{SameRows, rows, no-rows, row-agrees, rows-agree}
-use Rattle.imports.specs.Import.{curtailedOf, curtailedAt, read, withCurtailed, afterImportLine1, importBlockAt}
+use Rattle.records.specs.Records.{curtailedOf}
+use Rattle.imports.specs.Import.{curtailedAt, read, withCurtailed, afterImportLine1, importBlockAt}
 use Rattle.imports.proofs.Blocks.{curtailed-same}
 
 -- line 1 has 3 fields and at most 49 bytes, an interval line 7 and at most 113

@@ -6,11 +6,12 @@ use lib.IntN.{ℤ}
 use lib.ListN.{drop}
 use Rattle.tariff.specs.declared.Curtailed.{Curtailed}
 use Rattle.tariff.specs.declared.ImportHour.{ImportHour}
-use Rattle.tariff.specs.Units.{kw, price, seconds}
+use Rattle.tariff.specs.Units.{kw, price}
 use Rattle.tariff.specs.Reply.{FORM, RANGE, Verdict, clear, fault, unless, _then_}
 use Rattle.tariff.specs.Import.{isMark, isName, blankCurtailed, Part, stopped, importPart, partsTo, ImportReply, refused, outside, settled}
 use Rattle.text.specs.declared.Next.{Next}
 use Rattle.text.specs.declared.Next.the-variants.{At, Wrong}
+use Rattle.records.specs.Records.{curtailedOf}
 use Rattle.lines.specs.Line.{isAt, placeIn, andThen, valueIn, lineFeed, lineAt, filled}
 use Rattle.lines.specs.Rows.{rowIn, Rows, counted, brokenRow, rowsAt}
 use Rattle.lines.specs.Pieces.{restAfter, isSome}
@@ -40,18 +41,6 @@ abbrev pub importBody : List ℕ → List ℕ
 importBody s = drop (placeIn (headPlace s)) s
 
 -- ---- a block: line 1, keys 38 to 40, and up to 30 interval lines, keys 41 to 47, from line 2 on
-
-abbrev pub curtailedOf : (ℕ → ℤ) → Curtailed
-curtailedOf v =
-    record {
-      s = seconds (v 0);
-      cut = v 1;
-      prof = kw (v 2);
-      rten = kw (v 3);
-      lbmp = price (v 4);
-      bid = price (v 5);
-      def = price (v 6);
-    }
 
 -- interval i, where the first line of them stands at `at`
 abbrev pub curtailedAt : List ℕ → (at i : ℕ) → Curtailed

@@ -2,28 +2,52 @@
 use mathlib.Core.Path.{_≡_}
 use mathlib.Core.List.{List}
 use Prim.Native.Nat.{ℕ}
-use lib.Dec.{eqb}
-use Rattle.exact.specs.Choice.{if_then_else_}
-use Rattle.tariff.specs.Reply.{clear, shown}
-use Rattle.tariff.specs.Import.{blankCurtailed}
+use lib.IntN.{pos}
+use lib.ListN.{replicate}
+use Rattle.tariff.specs.declared.Check.{Check}
+use Rattle.tariff.specs.declared.Found.the-variants.{Fault}
+use Rattle.tariff.specs.declared.ImportHour.{ImportHour}
+use Rattle.tariff.specs.Units.{kw, price}
+use Rattle.tariff.specs.Reply.{FORM, Verdict, clear, fault, shown}
+use Rattle.tariff.specs.Import.{blankCurtailed, Part, part, stopped, ImportReply, refused, inHour}
 use Rattle.lines.specs.Line.{placeIn}
 use Rattle.lines.specs.Rows.{RowsFound}
 use Rattle.imports.specs.declared.block.RowsRead.{RowsRead}
 use Rattle.imports.specs.declared.block.ImportRead.{ImportRead}
 use Rattle.imports.specs.declared.head.Head.{Head}
-use Rattle.imports.specs.Import.{headPlace, nameIn, ctsIn, headFault, curtailedOf, ImportBlock, broken, read}
+use Rattle.imports.specs.Import.{headPlace, nameIn, ctsIn, headFault, ImportBlock, broken, read}
+use Rattle.records.specs.Records.{curtailedOf}
 
--- the first two lines: their fault or none, and then what they say and where they end
+-- ---- the first two lines: their fault or none, what they say and where they end. Lines that are refused say nothing, as zeros
+
+abbrev pub unlessRefused : {A : Type 0} → Verdict → (said nothing : A) → A
+unlessRefused clear said nothing = said
+unlessRefused (fault number place) said nothing = nothing
+
 pub record HeadRead (s : List ℕ) (r : Head) : Type 0 where
   pub found : shown (r .found) ≡ headFault s
-  pub name : headFault s ≡ clear → r .name ≡ nameIn s
-  pub cts : headFault s ≡ clear → r .cts ≡ ctsIn s
-  pub next : headFault s ≡ clear → r .next ≡ placeIn (headPlace s)
+  pub name : r .name ≡ unlessRefused (headFault s) (nameIn s) (pos 0)
+  pub cts : r .cts ≡ unlessRefused (headFault s) (ctsIn s) (pos 0)
+  pub next : r .next ≡ unlessRefused (headFault s) (placeIn (headPlace s)) 0
+
+abbrev pub refusedHead : Check → Head
+refusedHead check = record { found = Fault check; name = pos 0; cts = pos 0; next = 0 }
+
+-- ---- a block: the first line that is not as printed, from 1, or 0 and the record. No record goes with a broken block
 
 -- the interval lines of a block: up to 30 from line 2 on, so that one too many is line 32
 abbrev pub RowsReadAt : List ℕ → (at : ℕ) → RowsRead → Type 0
 RowsReadAt s at r = RowsFound 41 7 2 30 curtailedOf blankCurtailed s at (r .broken) (r .n) (r .iv)
 
--- a block: a line that is not as printed, from 1, or none and the record
-abbrev pub blockTold : ImportRead → ImportBlock
-blockTold r = if eqb (r .broken) 0 then read (r .hour) else broken (r .broken)
+abbrev pub noImportHour : ImportHour
+noImportHour = record { hour = pos 0; den = kw (pos 0); dec = price (pos 0); n = 0; iv = replicate 30 blankCurtailed }
+
+abbrev pub readOf : ImportBlock → ImportRead
+readOf (broken line) = record { broken = line; hour = noImportHour }
+readOf (read h) = record { broken = 0; hour = h }
+
+-- ---- the refusal of block k, handed on with its hour. A part is no refusal: were one handed on, it would be FORM at line 0, which no block has
+
+abbrev pub handedOn : Part → (k : ℕ) → ImportReply
+handedOn (stopped number place) k = refused number (inHour k) place
+handedOn (part grains) k = refused FORM (inHour k) 0

@@ -1,15 +1,11 @@
 // An import's block, read into a record: line 1, and up to 30 interval lines.
 ghost use mathlib.Core.Path.{_≡_};
-ghost use lib.IntN.{pos};
-ghost use lib.ListN.{getD};
-ghost use Rattle.tariff.specs.Import.{blankCurtailed};
-ghost use Rattle.imports.specs.Import.{curtailedOf, importBlockAt};
-ghost use Rattle.imports.specs.Read.{RowsReadAt, blockTold};
+ghost use Rattle.imports.specs.Import.{broken, importBlockAt};
+ghost use Rattle.imports.specs.Read.{RowsReadAt, readOf};
 use tariff::Curtailed;
 use tariff::ImportHour;
 use tariff::Kw;
 use tariff::Price;
-use tariff::Seconds;
 use text::Next;
 
 // The interval lines of a block: `broken` is the first line that is not as printed, or 0.
@@ -25,39 +21,11 @@ pub struct ImportRead {
     pub hour: ImportHour,
 }
 
-pub fn curtailed_of(v: [i64; 20]) -> Curtailed
-    ensures { λ r. ⌜ r ≡ curtailedOf (λ n. getD v n (pos 0)) ⌝ }
-{
-    Curtailed {
-        s: Seconds(v[0]),
-        cut: v[1],
-        prof: Kw(v[2]),
-        rten: Kw(v[3]),
-        lbmp: Price(v[4]),
-        bid: Price(v[5]),
-        def: Price(v[6]),
-    }
-}
-
-pub fn blank_curtailed() -> Curtailed
-    ensures { λ r. ⌜ r ≡ blankCurtailed ⌝ }
-{
-    Curtailed {
-        s: Seconds(0),
-        cut: 0,
-        prof: Kw(0),
-        rten: Kw(0),
-        lbmp: Price(0),
-        bid: Price(0),
-        def: Price(0),
-    }
-}
-
 // Up to 30 interval lines, and the end of the block.
 pub fn rows_at(s: &[u8], at: usize) -> RowsRead
     ensures { λ r. ⌜ RowsReadAt (now (s .entry)) at r ⌝ }
 {
-    let mut iv = [blank_curtailed(); 30];
+    let mut iv = [records::blank_curtailed(); 30];
     let mut i = at;
     let mut n: usize = 0;
     while !lines::is_closed(s, i) {
@@ -74,32 +42,32 @@ pub fn rows_at(s: &[u8], at: usize) -> RowsRead
             };
         };
         let v = fields.values;
-        iv[n] = curtailed_of(v);
+        iv[n] = records::curtailed_of(v);
         i = next;
         n += 1;
     }
     RowsRead { broken: 0, n, iv }
 }
 
-// A block whose line `broken` is not as printed: no record goes with it.
-pub fn broken_block(broken: usize) -> ImportRead
-    ensures { λ r. ⌜ r .broken ≡ broken ⌝ }
+// A block whose line is not as printed: no record goes with it.
+pub fn broken_block(line: usize) -> ImportRead
+    ensures { λ r. ⌜ r ≡ readOf (broken line) ⌝ }
 {
     ImportRead {
-        broken,
+        broken: line,
         hour: ImportHour {
             hour: 0,
             den: Kw(0),
             dec: Price(0),
             n: 0,
-            iv: [blank_curtailed(); 30],
+            iv: [records::blank_curtailed(); 30],
         },
     }
 }
 
 // The block that begins at a place, read up to its first empty line or the text's end.
 pub fn read_block(s: &[u8], at: usize) -> ImportRead
-    ensures { λ r. ⌜ blockTold r ≡ importBlockAt (now (s .entry)) at ⌝ }
+    ensures { λ r. ⌜ r ≡ readOf (importBlockAt (now (s .entry)) at) ⌝ }
 {
     let first = lines::fields_at(s, at, 38, 3);
     let v = first.values;

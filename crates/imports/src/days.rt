@@ -1,12 +1,13 @@
 // The blocks of an import's day, one after the other, up to the first that is refused.
 ghost use mathlib.Core.Path.{_≡_};
-ghost use Prim.Native.Nat.{ℕ, _≤_};
+ghost use Prim.Native.Nat.{_≤_};
 ghost use lib.IntN.{_+ℤ_};
 ghost use lib.ListN.{length, drop};
 ghost use Rattle.exact.specs.Whole.{Within};
-ghost use Rattle.tariff.specs.Import.{stopped, partsTo, inHour, refused, settled, worthTold, importTold};
+ghost use Rattle.tariff.specs.Import.{partsTo, settled, worthTold, importTold};
 ghost use Rattle.lines.specs.Pieces.{restAfter, isSome};
 ghost use Rattle.imports.specs.Import.{importBlockAt, partFrom, partAt};
+ghost use Rattle.imports.specs.Read.{handedOn};
 use crate::block;
 use tariff::Check;
 use tariff::Grains;
@@ -38,13 +39,13 @@ pub fn plus(sum: Grains, part: Grains) -> Grains
 }
 
 // The refusal of block k, handed on with its hour. What is worth a part is never handed on, and no form of the language leaves that
-// arm out.
+// arm out: it refuses the day too, and names the hour, so that no block could go missing from a payment.
 pub fn handed_on(answer: Worth, k: usize) -> ImportAnswer
-    ensures { λ r. ⌜ ((number place : ℕ) → worthTold answer ≡ stopped number place → importTold r ≡ refused number (inHour k) place) ⌝ }
+    ensures { λ r. ⌜ importTold r ≡ handedOn (worthTold answer) k ⌝ }
 {
     match answer {
         Worth::Refused(check) => ImportAnswer::Refused(ImportFault::Block(k, check)),
-        Worth::Part(_) => ImportAnswer::Refused(ImportFault::Surplus),
+        Worth::Part(_) => ImportAnswer::Refused(ImportFault::Block(k, Check::Form(0))),
     }
 }
 

@@ -2,7 +2,7 @@
 ghost use mathlib.Core.Path.{_≡_};
 ghost use mathlib.Core.Bool.{_&&_};
 ghost use Rattle.tariff.specs.Import.{isMark, isName};
-ghost use Rattle.imports.specs.Read.{HeadRead};
+ghost use Rattle.imports.specs.Read.{HeadRead, refusedHead};
 use tariff::Check;
 use tariff::Found;
 use text::Next;
@@ -17,7 +17,7 @@ pub struct Head {
 
 // Lines that are refused say nothing.
 pub fn refused(check: Check) -> Head
-    ensures { λ r. ⌜ r .found ≡ Found.Fault check ⌝ }
+    ensures { λ r. ⌜ r ≡ refusedHead check ⌝ }
 {
     Head {
         found: Found::Fault(check),

@@ -3,4 +3,5 @@ pub mod Step
 pub mod Row
 pub mod Pieces
 pub mod Kept
+pub mod Taken
 pub mod Unique

@@ -1,5 +1,6 @@
 -- A text of any length in bounded memory: of each piece, cut at the empty lines, a program keeps the first 16,384 bytes, which decide it,
 -- and its empty line; of what follows the last piece, one byte.
+use mathlib.Core.Path.{_≡_}
 use mathlib.Core.Bool.{Bool, true, _&&_}
 use mathlib.Core.List.{List, [], _∷_, _++_}
 use Prim.Native.Nat.{ℕ, _+_, _-_}
@@ -55,3 +56,9 @@ rowAll row i (b ∷ t) = if hasRoom row i then rowAll (placed row (i .n) (kept i
 -- a text of `pieces` at its beginning
 abbrev pub atFirst : ℕ → Intake
 atFirst pieces = record { n = 0; run = 0; start = true; left = pieces }
+
+-- some text was taken in from its beginning: the row holds what is kept of it, and so many bytes are
+pub record TakenIn (row : List ℕ) (pieces : ℕ) (last : List ℕ) (count : ℕ) : Type 0 where
+  pub text : List ℕ
+  pub counted : count ≡ afterAll row (atFirst pieces) text .n
+  pub holds : last ≡ rowAll row (atFirst pieces) text

@@ -4,7 +4,7 @@ ghost use mathlib.Core.Bool.{true};
 ghost use Prim.Native.Nat.{_+_, _-_, _≤_};
 ghost use lib.ListN.{length};
 ghost use Rattle.io.specs.Counts.{Counts};
-ghost use Rattle.intake.specs.Intake.{after, kept, placed, afterAll, rowAll, atFirst};
+ghost use Rattle.intake.specs.Intake.{after, kept, placed, afterAll, rowAll, atFirst, TakenIn};
 use libc::STDIN_FILENO;
 
 // How far a text is taken in: `n` bytes are kept, `run` of them of this piece, a line begins here or not, and `left` pieces are
@@ -144,10 +144,12 @@ pub fn keep(row: &mut [u8], i: Intake, bytes: &[u8]) -> Intake
     state
 }
 
-// Takes in standard input to its end, or until no further byte can matter; answers how many bytes of the row are kept. Nothing
-// says that an input ends, so the turns are counted down from a number that no run uses up.
+// Takes in standard input to its end, or until no further byte can matter; answers how many bytes of the row are kept. Which bytes a
+// read brings cannot be said: the row is what some text leaves, the reads one behind the other. Nothing says that an input ends, so the
+// turns are counted down from a number that no run uses up.
 pub fn take_in(row: &mut [u8], pieces: usize) -> usize
-    ensures { λ r. ⌜ Counts r (now (row .exit)) ⌝ }
+    ensures within { λ r. ⌜ Counts r (now (row .exit)) ⌝ }
+    ensures taken { λ r. ⌜ TakenIn (now (row .entry)) pieces (now (row .exit)) r ⌝ }
 {
     let mut chunk = io::large_buffer();
     let mut i = at_first(pieces);

@@ -1,7 +1,4 @@
 -- Laws that the proofs of the crate's functions cite; `Unique` has the laws of the public ones.
-pub mod Fives
-pub mod Cuts
-pub mod Derates
 pub mod Schedules
 pub mod Tasks
 pub mod Scans

@@ -6,7 +6,7 @@ use lib.IntN.{ℤ}
 use Rattle.exact.specs.Whole.{Within}
 use Rattle.tariff.specs.declared.Kw.{Kw}
 use Rattle.tariff.proofs.Ranks.{five, at-five}
-use Rattle.intervals.specs.Five.{kwFive, kwAt, Close}
+use Rattle.derate.specs.Five.{kwFive, kwAt, Close}
 
 pub schedules-within : (f : ℕ → ℤ) (q : List Kw) → q ≡ kwFive f → Close q → (j : ℕ) → j < 5 → Within 2000000 (f j)
 schedules-within f q e h = at-five (λ j. Within 2000000 (f j)) (rw e at (five (λ j. Within 2000000 (kwAt q j)) (h .close)))

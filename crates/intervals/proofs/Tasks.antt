@@ -26,7 +26,7 @@ use Rattle.tariff.proofs.Curves.{sum-nothing}
 use Rattle.tariff.proofs.Limits.{within-if}
 use Rattle.intervals.specs.declared.steps.Task.{Task}
 use Rattle.intervals.specs.declared.steps.Prepared.the-variants.{Exceeds, Ready}
-use Rattle.intervals.specs.Five.{kwFive, kwAt}
+use Rattle.derate.specs.Five.{kwFive, kwAt}
 use Rattle.intervals.specs.Task.{idleTask, taskOf, preparedOf, curveOf, costUp, signedCost, energyPart, finished, ofCost, ofPrepared, Fitting}
 
 -- ---- an integral by the order of its ends
@@ -168,6 +168,22 @@ module _ (a : DayAhead) (v : Interval) (q : List Kw) (e : q ≡ kwFive (reduced 
       }
 
 -- ---- a contribution by its branch
+
+-- the cost by the direction from D to the limit
+pub signed-down : (t : Task) (cost : ℤ) → ltZ (t .limit .0) (t .from .0) ≡ true → pos 0 -ℤ cost ≡ signedCost t cost
+signed-down t cost e = rw e
+
+pub signed-up : (t : Task) (cost : ℤ) → ltZ (t .limit .0) (t .from .0) ≡ false → cost ≡ signedCost t cost
+signed-up t cost e = rw e
+
+-- what is sold, by its gap, and the signed cost
+pub energy-is : (t : Task) (cost : ℤ) {gap sold signed energy : ℤ}
+    → gap ≡ t .from .0 -ℤ t .limit .0
+    → sold ≡ grainsOf gap (t .pen .0) (t .s .0)
+    → signed ≡ signedCost t cost
+    → energy ≡ sold +ℤ signed
+    → energy ≡ energyPart t cost
+energy-is t cost g p n e = rw (e, p, g, n)
 
 pub finished-lower : (t : Task) (cost : ℤ) → t .lower ≡ true → finished t cost ≡ energyPart t cost +ℤ t .others .0
 unfolding finished

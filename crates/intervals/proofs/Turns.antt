@@ -1,5 +1,5 @@
 -- A turn of the walk: what an interval of an hour in form and in range asks, and how the walk goes on or ends by the cost of that.
-use mathlib.Core.Path.{_≡_, refl, sym, ap, _∙_}
+use mathlib.Core.Path.{_≡_, sym, ap, _∙_}
 use mathlib.Core.Bool.{Bool, true, false}
 use mathlib.Core.List.{List}
 use Prim.Native.Nat.{ℕ, _+_, _<_, _≤_}
@@ -9,11 +9,9 @@ use lib.Signed.{ltZ}
 use Rattle.exact.proofs.Range.{within-min, within-max}
 use Rattle.tariff.specs.declared.Check.the-variants.{Derate, Reach}
 use Rattle.tariff.specs.declared.Curve.{Curve}
-use Rattle.tariff.specs.declared.DayAhead.{DayAhead}
 use Rattle.tariff.specs.declared.Found.the-variants.{Fault}
 use Rattle.tariff.specs.declared.Grains.{Grains}
 use Rattle.tariff.specs.declared.Hour.{Hour}
-use Rattle.tariff.specs.declared.Interval.{Interval}
 use Rattle.tariff.specs.Sheet.{aheadInRange, intervalInRange}
 use Rattle.tariff.specs.Reply.{clear}
 use Rattle.tariff.specs.Curve.{none}
@@ -27,18 +25,6 @@ use Rattle.intervals.proofs.Fits.{prepared-fits}
 use Rattle.intervals.proofs.Scans.{Stretch, Priced, cost-before}
 use Rattle.intervals.proofs.Tasks.{task-outcome, finished-within}
 use Rattle.intervals.proofs.Walks.{Walking, walked, walk-derated, walk-unreached, walk-goes-on}
-
--- an hour of these parts, whatever it says its hour is: no interval's outcome hangs on that
-abbrev pub hourWith : ℤ → DayAhead → Curve → Curve → ℕ → List Interval → Hour
-hourWith x ahead da rt n iv = record { hour = x; ahead = ahead; da = da; rt = rt; n = n; iv = iv }
-
--- the hour h, saying x
-abbrev saying : ℤ → Hour → Hour
-saying x h = hourWith x (h .ahead) (h .da) (h .rt) (h .n) (h .iv)
-
-saying-same : (x : ℤ) (h : Hour) (v : Interval) → outcome (saying x h) v ≡ outcome h v
-unfolding outcome
-saying-same x h v = refl
 
 -- both curves keep a property, so the one that is taken does
 either : (P : Curve → Type 0) (lower : Bool) {da rt : Curve} → P da → P rt → P (curveOf lower da rt)
@@ -93,9 +79,9 @@ module _ {h : Hour} {i : ℕ} {t : Task} {c : Curve} {low high : ℤ} (a : Asks 
   pub turn-before : Walking h parts i → ltZ low high ≡ true → ltZ low (c .start .0) ≡ true → WalkedTo h false (walked (Fault (Reach (i + 1))) parts)
   turn-before w up late = turn-unreached w (cost-before c low high (t .s .0) up late)
 
-  pub turn-goes-on : (x : ℤ) → Walking (saying x h) parts i → {cost : ℤ} → Priced c low high (t .s .0) cost → (g : Grains) → g .0 ≡ finished t cost
-      → Walking (saying x h) (set parts i g) (i + 1)
-  turn-goes-on x w {cost} p g e =
+  pub turn-goes-on : Walking h parts i → {cost : ℤ} → Priced c low high (t .s .0) cost → (g : Grains) → g .0 ≡ finished t cost
+      → Walking h (set parts i g) (i + 1)
+  turn-goes-on w {cost} p g e =
       walk-goes-on w (a .more) g (a .few)
-      (saying-same x h (interval h i) ∙ a .by-cost ∙ ap (ofCost t) (p .amount) ∙ ap gives (sym e))
+      (a .by-cost ∙ ap (ofCost t) (p .amount) ∙ ap gives (sym e))
       (rw e (finished-within t cost (a .fits) (p .size)))

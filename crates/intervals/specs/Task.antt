@@ -14,6 +14,7 @@ use Rattle.tariff.specs.Derate.{exceedsRoom, reduced}
 use Rattle.tariff.specs.Contributions.{isLower, limitOf, cappedOf, otherThanEnergy}
 use Rattle.tariff.specs.Hour.{Outcome, gives, derated, unreached}
 use Rattle.intervals.specs.declared.steps.Task.{Task}
+use Rattle.intervals.specs.declared.steps.Run.{Run}
 use Rattle.intervals.specs.declared.steps.Prepared.{Prepared}
 use Rattle.intervals.specs.declared.steps.Prepared.the-variants.{Exceeds, Ready}
 
@@ -52,6 +53,17 @@ highOf t = maxℤ (t .from .0) (t .limit .0)
 
 abbrev pub curveOf : Bool → Curve → Curve → Curve
 curveOf lower da rt = if lower then da else rt
+
+-- the stretch as it is scanned, upward: from its lowest kilowatt on, and on at a step's price p to its end e, or to `high` where that
+-- comes first
+abbrev pub runFrom : Task → Run
+runFrom t = record { at = kw (lowOf t); cost = grains (pos 0) }
+
+abbrev pub runOn : Run → (high e p s : ℤ) → Run
+runOn run high e p s =
+    if ltZ (run .at .0) e
+    then record { at = kw (minℤ e high); cost = grains (run .cost .0 +ℤ grainsOf (minℤ e high -ℤ run .at .0) p s) }
+    else run
 
 -- the cost of the stretch in grains, upward, for the task's seconds
 unfoldable pub costUp : Curve → (low high s : ℤ) → Amount

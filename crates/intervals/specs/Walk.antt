@@ -1,7 +1,7 @@
 -- What the walk over an hour's intervals finds and writes.
 use mathlib.Core.Path.{_≡_}
 use mathlib.Core.Bool.{Bool}
-use mathlib.Core.List.{List, map}
+use mathlib.Core.List.{List}
 use Prim.Native.Nat.{ℕ, _<_, _≤_}
 use lib.ListN.{length, getD, replicate}
 use lib.IntN.{ℤ, pos}
@@ -20,9 +20,6 @@ use Rattle.intervals.specs.declared.Contributions.{Contributions}
 
 abbrev pub grainsAt : List Grains → ℕ → ℤ
 grainsAt l i = getD l i (grains (pos 0)) .0
-
-abbrev pub raws : List Grains → List ℤ
-raws l = map (λ (g : Grains). g .0) l
 
 -- each entry keeps within what an interval can contribute
 pub record Bounded (l : List Grains) : Type 0 where

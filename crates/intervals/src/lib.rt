@@ -16,8 +16,6 @@ use tariff::ImportHour;
 use tariff::Worth;
 
 mod curtailed;
-mod derate;
-mod energy;
 mod others;
 mod steps;
 mod sums;

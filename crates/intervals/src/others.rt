@@ -5,7 +5,7 @@ ghost use Rattle.exact.specs.Whole.{Within};
 ghost use Rattle.tariff.specs.Sheet.{aheadInRange, intervalInRange};
 ghost use Rattle.tariff.specs.Contributions.{reserve, regulation, movement, otherThanEnergy};
 ghost use Rattle.tariff.specs.Derate.{reduced};
-ghost use Rattle.intervals.specs.Five.{kwFive, Close};
+ghost use Rattle.derate.specs.Five.{kwFive, Close};
 use crate::sums;
 use tariff::DayAhead;
 use tariff::Grains;

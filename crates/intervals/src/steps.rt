@@ -5,15 +5,6 @@ use tariff::Kw;
 use tariff::Price;
 use tariff::Seconds;
 
-// Kilowatts of a reduction, or what its sharing leaves over in parts of the room: never negative.
-pub struct Cut(pub u64);
-
-// The five schedules of an interval after its derate; `exceeds` where the reduction has no room.
-pub struct Derated {
-    pub exceeds: bool,
-    pub schedules: [Kw; 5],
-}
-
 // An interval ready to be priced: the kilowatts from `from` to `limit`, on the day-ahead curve if `lower`.
 pub struct Task {
     pub lower: bool,
@@ -28,6 +19,12 @@ pub struct Task {
 pub enum Prepared {
     Exceeds,
     Ready(Task),
+}
+
+// How far the scan of a curve's steps has come: the next kilowatt to be priced, and what those before it cost.
+pub struct Run {
+    pub at: Kw,
+    pub cost: Grains,
 }
 
 // The first DERATE or REACH, or nothing and each interval's contribution.

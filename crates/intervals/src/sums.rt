@@ -25,14 +25,6 @@ pub fn kw_plus(a: Kw, b: Kw) -> Kw
     Kw(a.0 + b.0)
 }
 
-// Five schedules and no more are summed.
-pub fn kw_sum(sum: Kw, k: Kw) -> Kw
-    requires { ⌜ Within 10000000 (sum .0) × Within 2000000 (k .0) ⌝ }
-    ensures { λ r. ⌜ r .0 ≡ sum .0 +ℤ k .0 ⌝ }
-{
-    Kw(sum.0 + k.0)
-}
-
 pub fn price_minus(a: Price, b: Price) -> Price
     requires { ⌜ Within 1000000 (a .0) × Within 1000000 (b .0) ⌝ }
     ensures { λ r. ⌜ r .0 ≡ a .0 -ℤ b .0 ⌝ }

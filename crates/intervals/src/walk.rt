@@ -6,14 +6,14 @@ ghost use lib.IntN.{ℤ, _+ℤ_, _-ℤ_};
 ghost use Rattle.exact.specs.Whole.{Within};
 ghost use Rattle.tariff.specs.Units.{grainsOf};
 ghost use Rattle.tariff.specs.Sheet.{aheadInRange, intervalInRange};
+ghost use Rattle.tariff.specs.Contributions.{capped};
 ghost use Rattle.tariff.specs.Reply.{clear};
 ghost use Rattle.tariff.specs.Hour.{form, range};
-ghost use Rattle.intervals.specs.Task.{preparedOf, curveOf, signedCost, finished, Fitting};
+ghost use Rattle.intervals.specs.Task.{preparedOf, curveOf, runFrom, runOn, signedCost, finished, Fitting};
 ghost use Rattle.intervals.specs.Walk.{WalkedTo};
-use crate::derate;
-use crate::energy;
 use crate::others;
 use crate::steps::Prepared;
+use crate::steps::Run;
 use crate::steps::Task;
 use crate::steps::Walked;
 use crate::sums;
@@ -28,12 +28,24 @@ use tariff::Kw;
 use tariff::Price;
 use tariff::Seconds;
 
+// Output above the schedule and its compensable overgeneration is not counted, where the schedule is above 0.
+pub fn capped_output(live: Kw, ae: Kw, co: Kw) -> Kw
+    requires { ⌜ Within 2000000 (live .0) × Within 2000000 (co .0) ⌝ }
+    ensures { λ r. ⌜ r .0 ≡ capped (live .0) (ae .0) (co .0) ⌝ }
+{
+    if units::below(Kw(0), live) {
+        units::kw_min(ae, sums::kw_plus(live, co))
+    } else {
+        ae
+    }
+}
+
 // What an interval asks: nothing if it lags (25.4), else its derate, and then the stretch between D and its limit.
 pub fn prepare(a: DayAhead, v: Interval) -> Prepared
     requires { ⌜ (aheadInRange a ≡ true) × (intervalInRange v ≡ true) ⌝ }
     ensures { λ r. ⌜ r ≡ preparedOf a v ⌝ }
 {
-    if !units::below(v.lim, v.ae) {
+    if limits::lags(v) {
         return Prepared::Ready(Task {
             lower: true,
             from: Kw(0),
@@ -50,12 +62,12 @@ pub fn prepare(a: DayAhead, v: Interval) -> Prepared
     let schedules = q.schedules;
     let from = schedules[0];
     let live = v.en;
-    let counted = energy::capped_output(live, v.ae, v.co);
-    let limit = energy::limit_of(from, live, v.eop, counted);
+    let counted = capped_output(live, v.ae, v.co);
+    let limit = limits::limit_of(from, live, v.eop, counted);
     let pen = v.pen;
     let s = v.s;
     Prepared::Ready(Task {
-        lower: energy::is_lower(from, live),
+        lower: limits::is_lower(from, live),
         from,
         limit,
         pen,
@@ -76,6 +88,32 @@ pub fn cost_plus(cost: Grains, x: Kw, e: Kw, p: Price, s: Seconds) -> Grains
     ensures { λ r. ⌜ r .0 ≡ cost .0 +ℤ grainsOf (e .0 -ℤ x .0) (p .0) (s .0) ⌝ }
 {
     sums::grains_plus(cost, sums::product(sums::kw_minus(e, x), p, s))
+}
+
+// A stretch is priced upward, from the lower of D and the limit.
+pub fn run_from(t: Task) -> Run
+    ensures { λ r. ⌜ r ≡ runFrom t ⌝ }
+{
+    Run {
+        at: units::kw_min(t.from, t.limit),
+        cost: Grains(0),
+    }
+}
+
+// The run goes on at a step's price to its end `e`, or to `high` where that comes first.
+pub fn run_on(run: Run, high: Kw, e: Kw, p: Price, s: Seconds) -> Run
+    requires { ⌜ Within 4000000000000000 (run .cost .0) × Within 2000000 (run .at .0) × Within 2000000 (high .0) × Within 2000000 (e .0) × Within 1000000 (p .0) × Within 900 (s .0) ⌝ }
+    ensures { λ r. ⌜ r ≡ runOn run (high .0) (e .0) (p .0) (s .0) ⌝ }
+{
+    if units::below(run.at, e) {
+        let up = units::kw_min(high, e);
+        Run {
+            at: up,
+            cost: cost_plus(run.cost, run.at, up, p, s),
+        }
+    } else {
+        run
+    }
 }
 
 // The integral from D to the limit: taken downward it is the negative of the upward one.
@@ -110,51 +148,37 @@ pub fn walk_hour(h: Hour) -> Walked
     requires { ⌜ (form h ≡ clear) × (range h ≡ clear) ⌝ }
     ensures { λ r. ⌜ WalkedTo h false r ⌝ }
 {
-    let n = h.n;
-    let ahead = h.ahead;
-    let da = h.da;
-    let rt = h.rt;
-    let iv = h.iv;
     let mut parts = [Grains(0); 30];
     let mut i: usize = 0;
     let found = 'hour: loop {
-        if n <= i {
+        if h.n <= i {
             break 'hour Found::Nothing;
         }
-        let v = iv[i];
-        let Prepared::Ready(t) = prepare(ahead, v) else {
-            break 'hour Found::Fault(Check::Derate(i + 1));
+        let place = i + 1;
+        let Prepared::Ready(t) = prepare(h.ahead, h.iv[i]) else {
+            break 'hour Found::Fault(Check::Derate(place));
         };
-        let c = curve_for(t.lower, da, rt);
-        let low = units::kw_min(t.from, t.limit);
+        let c = curve_for(t.lower, h.da, h.rt);
         let high = units::kw_max(t.from, t.limit);
-        let s = t.s;
-        let mut cost = Grains(0);
-        if units::below(low, high) {
-            if units::below(low, c.start) {
-                break 'hour Found::Fault(Check::Reach(i + 1));
+        let mut run = run_from(t);
+        if units::below(run.at, high) {
+            if units::below(run.at, c.start) {
+                break 'hour Found::Fault(Check::Reach(place));
             }
-            let mut x = low;
             let mut j: usize = 0;
             'scan: loop {
                 if c.n <= j {
-                    break 'hour Found::Fault(Check::Reach(i + 1));
+                    break 'hour Found::Fault(Check::Reach(place));
                 }
-                let e = c.to[j];
-                let p = c.at[j];
-                if units::below(x, e) {
-                    if !units::below(e, high) {
-                        cost = cost_plus(cost, x, high, p, s);
-                        break 'scan;
-                    }
-                    cost = cost_plus(cost, x, e, p, s);
-                    x = e;
+                run = run_on(run, high, c.to[j], c.at[j], t.s);
+                if !units::below(run.at, high) {
+                    break 'scan;
                 }
                 j += 1;
             }
         }
-        parts[i] = finish(t, cost);
-        i += 1;
+        parts[i] = finish(t, run.cost);
+        i = place;
     };
     Walked { found, parts }
 }

@@ -1,4 +1,4 @@
--- Two blocks that are the same or differ in their curve lines only are answered alike; and REACH in an hour of a day.
+-- Two blocks that are the same or differ in their curve lines only are answered alike; and REACH and DERATE in an hour of a day.
 use mathlib.Core.Path.{_≡_, refl, sym, ap, _∙_}
 use mathlib.Core.Bool.{Bool}
 use mathlib.Core.List.{List}
@@ -10,14 +10,22 @@ use lib.ListN.{replicate}
 use Rattle.tariff.specs.declared.Hour.{Hour}
 use Rattle.tariff.specs.declared.Expected.{Expected}
 use Rattle.tariff.specs.declared.Expected.the-variants.{Says}
-use Rattle.tariff.specs.Reply.{paid, refused, REACH, clear}
+use Rattle.tariff.specs.Reply.{paid, refused, DERATE, REACH, clear}
 use Rattle.tariff.specs.Eligible.{excluded}
-use Rattle.tariff.specs.Demand.{FirstUnpriced, NoFaultTo4, NoFaultTo5, Extends}
+use Rattle.tariff.specs.Demand.{FirstUnpriced, UnpricedBeforeDerate, ExceededBeforeReach, NoFaultTo4, NoFaultTo5, Extends}
 use Rattle.lines.specs.Pieces.{piece}
 use Rattle.sheet.specs.Apart.{CurvesApart}
-use Rattle.sheet.specs.Block.{Block, broken, read, blockOf, replyTo}
+use Rattle.blocks.specs.Block.{Block, broken, read, blockOf}
+use Rattle.sheet.specs.Settle.{replyTo}
 use Rattle.sheet.proofs.Apart.{never-read}
-use Rattle.sheet.proofs.BlockDemands.{curves-apart-break-alike, only-needed-prices-of-blocks-matter, block-reach-exactly-when-unpriced, adding-curve-to-a-block-changes-nothing}
+use Rattle.sheet.proofs.BlockDemands.{
+  curves-apart-break-alike,
+  only-needed-prices-of-blocks-matter,
+  block-reach-exactly-when-unpriced,
+  block-refused-for-reach-exactly-when-some-kilowatt-is-unpriced,
+  block-refused-for-derate-exactly-when-some-reduction-exceeds,
+  adding-curve-to-a-block-changes-nothing,
+}
 use Rattle.header.specs.Header.{headerFault, marksOf}
 use Rattle.ledger.specs.Day.{bodyOf, dayReply}
 use Rattle.ledger.specs.Demand.{Pays, BlocksApart, same, apart, PricedAlike, one, priced}
@@ -68,9 +76,21 @@ module _ (s t : List ℕ) (isExcluded : Bool) (expected : Expected) where
       let l = longer h g x y in
       p .pays ∙ sym (blocks-extended b h g x y (p .sum) (p .cents) (l .0) (l .1) (l .2) (p .pays)))
 
--- ---- REACH in an hour of a day
+-- ---- REACH and DERATE in an hour of a day
+
 pub day-reach : (hours : ℕ) (s : List ℕ) → headerFault hours s ≡ clear → (k i : ℕ) (h : Hour) → blockOf (piece k (bodyOf hours s)) ≡ read h
     → (dayReply hours s k ≡ refused REACH (i + 1)) ↔ (NoFaultTo5 h (Says (pos k)) × FirstUnpriced h (excluded hours (marksOf hours s) k) i)
 day-reach hours s e k i h x =
     rw (own-block hours s e k 30 (omega arith))
     (block-reach-exactly-when-unpriced (piece k (bodyOf hours s)) h (excluded hours (marksOf hours s) k) (Says (pos k)) 30 i x)
+
+module _ (hours : ℕ) (s : List ℕ) (e : headerFault hours s ≡ clear) (k : ℕ) (h : Hour) (x : blockOf (piece k (bodyOf hours s)) ≡ read h) where
+  pub day-reach-some : ((place : ℕ) × (dayReply hours s k ≡ refused REACH place)) ↔ (NoFaultTo5 h (Says (pos k)) × UnpricedBeforeDerate h (excluded hours (marksOf hours s) k))
+  day-reach-some =
+      rw (own-block hours s e k 30 (omega arith))
+      (block-refused-for-reach-exactly-when-some-kilowatt-is-unpriced (piece k (bodyOf hours s)) h (excluded hours (marksOf hours s) k) (Says (pos k)) 30 x)
+
+  pub day-derate-some : ((place : ℕ) × (dayReply hours s k ≡ refused DERATE place)) ↔ (NoFaultTo5 h (Says (pos k)) × ExceededBeforeReach h (excluded hours (marksOf hours s) k))
+  day-derate-some =
+      rw (own-block hours s e k 30 (omega arith))
+      (block-refused-for-derate-exactly-when-some-reduction-exceeds (piece k (bodyOf hours s)) h (excluded hours (marksOf hours s) k) (Says (pos k)) 30 x)

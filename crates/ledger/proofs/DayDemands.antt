@@ -8,20 +8,22 @@ use lib.IntN.{ℤ, pos}
 use Rattle.exact.specs.Whole.{sumTo}
 use Rattle.tariff.specs.declared.Hour.{Hour}
 use Rattle.tariff.specs.declared.Expected.the-variants.{Any, Says}
-use Rattle.tariff.specs.Reply.{paid, refused, ORDER, REACH, clear, fault}
+use Rattle.tariff.specs.Reply.{paid, refused, ORDER, DERATE, REACH, clear, fault}
 use Rattle.tariff.specs.Eligible.{near, excluded}
 use Rattle.tariff.specs.Hour.{range, reply}
-use Rattle.tariff.specs.Demand.{FirstUnpriced, NoFaultTo4, NoFaultTo5, Extends}
+use Rattle.tariff.specs.Demand.{FirstUnpriced, UnpricedBeforeDerate, ExceededBeforeReach, NoFaultTo4, NoFaultTo5, Extends}
 use Rattle.marks.specs.Alike.{AlikeBut, AlikeToX4}
 use Rattle.lines.specs.Pieces.{restAfter, piece}
 use Rattle.intake.specs.Intake.{keptOf, atFirst}
-use Rattle.sheet.specs.Block.{blockOf, read, replyTo}
+use Rattle.blocks.specs.Block.{blockOf, read}
+use Rattle.sheet.specs.Settle.{replyTo}
 use Rattle.header.specs.Header.{headerFault, marksOf}
-use Rattle.ledger.specs.Day.{bodyOf, dayReply, total, none, dayTotal}
+use Rattle.ledger.specs.Day.{bodyOf, dayReply, dayTotal}
+use Rattle.tariff.specs.Total.{total, none}
 use Rattle.ledger.specs.Demand.{centsIn, Pays, PricedAlike, DaysApart}
 use Rattle.ledger.proofs.HourOfDay.{hour-refused, own-block, another-hour, its-own-hour}
 use Rattle.ledger.proofs.MarksOfDay.{mark-near, marks-without-rtc}
-use Rattle.ledger.proofs.BlocksApart.{day-reach}
+use Rattle.ledger.proofs.BlocksApart.{day-reach, day-reach-some, day-derate-some}
 use Rattle.ledger.proofs.TwoDays.{days-priced, hour-extended, days-added}
 use Rattle.ledger.proofs.KeptSheet.{sheet-settled}
 use Rattle.ledger.proofs.SumOfDay.{total-sum, total-refused, total-surplus}
@@ -46,15 +48,14 @@ pub a-refused-header-refuses-every-hour :
     → dayReply hours s k ≡ refused number place
 a-refused-header-refuses-every-hour = hour-refused
 
--- ORDER, at 1: block k says another hour than k, and its numbers are in their ranges.
+-- ORDER is given exactly when block k says another hour than k and its numbers are in their ranges, at 1.
 pub another-hour-is-order :
     (hours : ℕ) (s : List ℕ)
     → headerFault hours s ≡ clear
     → (k : ℕ) (h : Hour)
     → blockOf (piece k (bodyOf hours s)) ≡ read h
-    → range h ≡ clear
-    → (h .hour ≡ pos k → ⊥)
-    → dayReply hours s k ≡ refused ORDER 1
+    → (place : ℕ)
+    → (dayReply hours s k ≡ refused ORDER place) ↔ ((range h ≡ clear) × (place ≡ 1) × (h .hour ≡ pos k → ⊥))
 another-hour-is-order = another-hour
 
 -- A block that says the hour of its place is answered as where any hour may be said.
@@ -120,6 +121,26 @@ pub reach-of-an-hour-exactly-when-unpriced :
     → blockOf (piece k (bodyOf hours s)) ≡ read h
     → (dayReply hours s k ≡ refused REACH (i + 1)) ↔ (NoFaultTo5 h (Says (pos k)) × FirstUnpriced h (excluded hours (marksOf hours s) k) i)
 reach-of-an-hour-exactly-when-unpriced = day-reach
+
+-- So an hour of a day is refused for reach exactly when no check from 1 to 5 refuses it, a kilowatt that some interval must price has no
+-- price, and no derate refusal falls in that interval or before it.
+pub an-hour-is-refused-for-reach-exactly-when-some-kilowatt-is-unpriced :
+    (hours : ℕ) (s : List ℕ)
+    → headerFault hours s ≡ clear
+    → (k : ℕ) (h : Hour)
+    → blockOf (piece k (bodyOf hours s)) ≡ read h
+    → ((place : ℕ) × (dayReply hours s k ≡ refused REACH place)) ↔ (NoFaultTo5 h (Says (pos k)) × UnpricedBeforeDerate h (excluded hours (marksOf hours s) k))
+an-hour-is-refused-for-reach-exactly-when-some-kilowatt-is-unpriced = day-reach-some
+
+-- And for derate exactly when no check from 1 to 5 refuses it, the reduction of some eligible interval exceeds the room for it, and no
+-- reach refusal falls before that interval.
+pub an-hour-is-refused-for-derate-exactly-when-some-reduction-exceeds :
+    (hours : ℕ) (s : List ℕ)
+    → headerFault hours s ≡ clear
+    → (k : ℕ) (h : Hour)
+    → blockOf (piece k (bodyOf hours s)) ≡ read h
+    → ((place : ℕ) × (dayReply hours s k ≡ refused DERATE place)) ↔ (NoFaultTo5 h (Says (pos k)) × ExceededBeforeReach h (excluded hours (marksOf hours s) k))
+an-hour-is-refused-for-derate-exactly-when-some-reduction-exceeds = day-derate-some
 
 -- Adding curve to a paid hour of a day never moves a cent, where the longer curves break no rule of checks 1 to 4: with every price that
 -- its curves had, and perhaps more, it pays the same.

@@ -20,13 +20,15 @@ use Rattle.lines.specs.Pieces.{restAfter, isSome}
 use Rattle.lines.proofs.Ended.{feed-inside}
 use Rattle.marks.specs.Word.{word}
 use Rattle.marks.proofs.Rows.{marked-word}
-use Rattle.sheet.specs.Block.{blockOf, replyTo}
+use Rattle.blocks.specs.Block.{blockOf}
+use Rattle.sheet.specs.Settle.{replyTo}
 use Rattle.header.specs.Header.{headerFault, headerLine, linePlace, marksUnder, nextUnder}
-use Rattle.ledger.specs.declared.Place.{Place}
-use Rattle.ledger.specs.Day.{Sum, none, sumOf, hourReply, dayReply, dayReplies, dayTotal, toldAll}
+use Rattle.tariff.specs.declared.Place.{Place}
+use Rattle.tariff.specs.Total.{Sum, none, sumOf, toldAll}
+use Rattle.ledger.specs.Day.{hourReply, dayReply, dayReplies, dayTotal}
 use Rattle.ledger.specs.Walk.{wordReply}
 use Rattle.ledger.proofs.Totals.{sum-same}
-use Rattle.ledger.proofs.Places.{place, told-filled}
+use Rattle.tariff.proofs.Places.{place, told-filled}
 use Rattle.ledger.proofs.HourOfDay.{hour-refused}
 use Rattle.ledger.proofs.SumOfDay.{total-refused}
 

@@ -1,17 +1,20 @@
 -- An hour of a day: under a clear header its block's own answer, and under a refused one the header's refusal.
-use mathlib.Core.Path.{_≡_, ap, _∙_, sym}
+use mathlib.Core.Path.{_≡_, refl, ap, _∙_, sym}
 use mathlib.Core.List.{List}
+use mathlib.Core.Logic.{_↔_}
 use Prim.Native.Nat.{ℕ, _≤_}
 use native.Mathlib.Omega.{arith}
 use lib.IntN.{pos}
-use Rattle.exact.proofs.Parts.{true-eqZ, false-eqZ}
+use Rattle.exact.proofs.Parts.{true-eqZ}
 use Rattle.tariff.specs.declared.Hour.{Hour}
 use Rattle.tariff.specs.declared.Expected.the-variants.{Any, Says}
-use Rattle.tariff.specs.Reply.{refused, Verdict, clear, fault, otherwise}
+use Rattle.tariff.specs.Reply.{refused, ORDER, Verdict, clear, fault, otherwise}
 use Rattle.tariff.specs.Eligible.{excluded}
 use Rattle.tariff.specs.Hour.{range, order, reply}
+use Rattle.tariff.proofs.Demands.{order-exactly-when-another-hour}
 use Rattle.lines.specs.Pieces.{restAfter, piece}
-use Rattle.sheet.specs.Block.{Block, blockOf, read, replyTo}
+use Rattle.blocks.specs.Block.{Block, blockOf, read}
+use Rattle.sheet.specs.Settle.{replyTo}
 use Rattle.sheet.proofs.ReadHours.{read-sound}
 use Rattle.sheet.proofs.Closing.{piece-decides}
 use Rattle.header.specs.Header.{headerFault, marksOf, marksUnder}
@@ -41,9 +44,12 @@ module _ (hours : ℕ) (s : List ℕ) where
       read-reply : dayReply hours s k ≡ reply h (excluded hours (marksOf hours s) k) (Says (pos k)) 30
       read-reply = own-block 30 (omega arith) ∙ ap (λ (x : Block). replyTo x (excluded hours (marksOf hours s) k) (Says (pos k)) 30) b
 
-      pub another-hour : range h ≡ clear → (h .hour ≡ pos k → ⊥) → dayReply hours s k ≡ refused 3 1
-      unfolding reply order
-      another-hour r n = read-reply ∙ rw (read-sound _ h b .form, r, false-eqZ (h .hour) (pos k) n)
+      pub another-hour : (place : ℕ) → (dayReply hours s k ≡ refused ORDER place) ↔ ((range h ≡ clear) × (place ≡ 1) × (h .hour ≡ pos k → ⊥))
+      another-hour place =
+          let it = order-exactly-when-another-hour h (excluded hours (marksOf hours s) k) (Says (pos k)) 30 place in (
+            λ d. let w = it .0 (sym read-reply ∙ d) in (w .1, w .2, λ q. w .3 .other (let a = w .3 .asked in cc)),
+            λ w. read-reply ∙ it .1 (read-sound _ h b .form, w .0, w .1, record { hour = pos k; asked = refl; other = w .2 }),
+          )
 
       pub its-own-hour : h .hour ≡ pos k → dayReply hours s k ≡ reply h (excluded hours (marksOf hours s) k) Any 30
       unfolding reply order

@@ -13,7 +13,8 @@ use Rattle.tariff.specs.Eligible.{excluded}
 use Rattle.lines.specs.Pieces.{restAfter, isSome}
 use Rattle.lines.proofs.Pieces.{rest-behind}
 use Rattle.intake.proofs.Kept.{FirstKept, short, long}
-use Rattle.sheet.specs.Block.{Block, blockOf, replyTo}
+use Rattle.blocks.specs.Block.{Block, blockOf}
+use Rattle.sheet.specs.Settle.{replyTo}
 use Rattle.sheet.proofs.BlockDemands.{first-bytes-decide}
 use Rattle.sheet.proofs.Closing.{piece-decides}
 use Rattle.header.specs.Header.{headerFault, marksOf, marksUnder, nextUnder}

@@ -1,7 +1,6 @@
 -- What is proved of days: `DayDemands` states it of the definitions, `Unique` that the day call has one reply. The others hold the laws that
 -- these and the functions' proofs cite.
 pub mod Totals
-pub mod Places
 pub mod Walks
 pub mod Days
 pub mod Unique

@@ -10,7 +10,8 @@ use Rattle.tariff.specs.Eligible.{near, excluded}
 use Rattle.lines.specs.Pieces.{restAfter}
 use Rattle.marks.specs.Alike.{AlikeBut, AlikeToX4}
 use Rattle.marks.proofs.Far.{a-mark-moves-no-further-than-two, without-rtc}
-use Rattle.sheet.specs.Block.{blockOf, replyTo}
+use Rattle.blocks.specs.Block.{blockOf}
+use Rattle.sheet.specs.Settle.{replyTo}
 use Rattle.header.specs.Header.{headerFault, marksOf}
 use Rattle.ledger.specs.Day.{bodyOf, hourReply, dayReply}
 use Rattle.ledger.proofs.HourOfDay.{hour-clear}

@@ -9,7 +9,8 @@ use Rattle.tariff.specs.declared.Hour.{Hour}
 use Rattle.tariff.specs.declared.Expected.{Expected}
 use Rattle.tariff.specs.Hour.{form, reply}
 use Rattle.tariff.proofs.Ranges.{form-says}
-use Rattle.sheet.specs.Block.{Block, broken, read, blockOf, replyTo}
+use Rattle.blocks.specs.Block.{Block, broken, read, blockOf}
+use Rattle.sheet.specs.Settle.{replyTo}
 use Rattle.sheet.proofs.ReadHours.{read-sound}
 
 module _ (isExcluded : Bool) (expected : Expected) (room : ℕ) (enough : 30 ≤ room) where

@@ -11,7 +11,8 @@ use Rattle.exact.specs.Choice.{if_then_else_}
 use Rattle.exact.specs.Whole.{sumTo}
 use Rattle.tariff.specs.Reply.{Reply, paid, refused}
 use Rattle.lines.specs.Pieces.{restAfter, isSome}
-use Rattle.ledger.specs.Day.{bodyOf, dayReply, Sum, total, none, _plus_, sumOf, dayTotal}
+use Rattle.ledger.specs.Day.{bodyOf, dayReply, dayTotal}
+use Rattle.tariff.specs.Total.{Sum, total, none, _plus_, sumOf}
 use Rattle.ledger.specs.Demand.{centsIn, Pays}
 use Rattle.ledger.proofs.Totals.{sum-same}
 

@@ -15,9 +15,9 @@ use Rattle.tariff.specs.declared.Cents.{Cents}
 use Rattle.tariff.specs.declared.Grains.{Grains}
 use Rattle.tariff.specs.Units.{centsOf}
 use Rattle.tariff.specs.Reply.{Reply, paid, refused, told}
-use Rattle.ledger.specs.declared.Total.{Total}
-use Rattle.ledger.specs.declared.Total.the-variants.{Of, Withheld}
-use Rattle.ledger.specs.Day.{Sum, total, none, _plus_, sumOf, toldTotal}
+use Rattle.tariff.specs.declared.Total.{Total}
+use Rattle.tariff.specs.declared.Total.the-variants.{Of, Withheld}
+use Rattle.tariff.specs.Total.{Sum, total, none, _plus_, sumOf, toldTotal}
 use Rattle.ledger.specs.Walk.{Rounded, UpToCents, Added}
 
 -- ---- the sum of the first

@@ -12,7 +12,8 @@ use Rattle.tariff.specs.Reply.{paid}
 use Rattle.tariff.specs.Eligible.{excluded}
 use Rattle.tariff.specs.Demand.{NoFaultTo4, Extends}
 use Rattle.lines.specs.Pieces.{restAfter, isSome, piece}
-use Rattle.sheet.specs.Block.{read, blockOf, replyTo}
+use Rattle.blocks.specs.Block.{read, blockOf}
+use Rattle.sheet.specs.Settle.{replyTo}
 use Rattle.header.specs.Header.{marksOf}
 use Rattle.ledger.specs.Day.{bodyOf, dayReply, dayTotal}
 use Rattle.ledger.specs.Demand.{Pays, BlocksApart, PricedAlike, DaysApart}

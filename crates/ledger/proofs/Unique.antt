@@ -6,11 +6,11 @@ use Rattle.tariff.specs.declared.Found.{Found}
 use Rattle.tariff.specs.Units.{cents}
 use Rattle.tariff.proofs.Demands.{one-finding}
 use Rattle.ledger.specs.declared.Day.{Day}
-use Rattle.ledger.specs.declared.Place.{Place}
-use Rattle.ledger.specs.declared.Total.{Total}
-use Rattle.ledger.specs.declared.Total.the-variants.{Of, Withheld}
-use Rattle.ledger.specs.Day.{Sum, total, none, toldTotal}
-use Rattle.ledger.proofs.Places.{places-one}
+use Rattle.tariff.specs.declared.Place.{Place}
+use Rattle.tariff.specs.declared.Total.{Total}
+use Rattle.tariff.specs.declared.Total.the-variants.{Of, Withheld}
+use Rattle.tariff.specs.Total.{Sum, total, none, toldTotal}
+use Rattle.tariff.proofs.Places.{places-one}
 use Rattle.ledger.proofs.settle_day.Reads as settle-day
 
 abbrev totalOf : Sum → Total

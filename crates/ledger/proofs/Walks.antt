@@ -21,14 +21,15 @@ use Rattle.tariff.proofs.Payments.{paid-once}
 use Rattle.lines.specs.Cut.{behind}
 use Rattle.lines.specs.Pieces.{restAfter}
 use Rattle.lines.proofs.Pieces.{Behind, lent-to-the-end, some-left, none-left}
-use Rattle.sheet.specs.Block.{Block, broken, read, blockOf, replyTo}
-use Rattle.ledger.specs.declared.Place.{Place}
-use Rattle.ledger.specs.declared.Total.{Total}
-use Rattle.ledger.specs.declared.Total.the-variants.{Of, Withheld}
-use Rattle.ledger.specs.Day.{sumOf, toldTotal, toldAll}
+use Rattle.blocks.specs.Block.{Block, broken, read, blockOf}
+use Rattle.sheet.specs.Settle.{replyTo}
+use Rattle.tariff.specs.declared.Place.{Place}
+use Rattle.tariff.specs.declared.Total.{Total}
+use Rattle.tariff.specs.declared.Total.the-variants.{Of, Withheld}
+use Rattle.tariff.specs.Total.{sumOf, toldTotal, toldAll}
 use Rattle.ledger.specs.Walk.{Rounded, UpToCents, Added, wordReply, SettledTo}
 use Rattle.ledger.proofs.Totals.{sum-next, nothing-most}
-use Rattle.ledger.proofs.Places.{place, told-next}
+use Rattle.tariff.proofs.Places.{place, told-next}
 
 -- ---- the reply to a block
 

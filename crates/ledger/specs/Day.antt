@@ -1,20 +1,19 @@
 -- A day's sheet: a header and a block for each of its `hours`. Each block place has an answer, and the day a total or none.
-use mathlib.Core.List.{List, [], _∷_}
-use Prim.Native.Nat.{ℕ, zero, suc}
-use lib.IntN.{ℤ, pos, _+ℤ_}
+use mathlib.Core.List.{List}
+use Prim.Native.Nat.{ℕ}
+use lib.IntN.{pos}
 use lib.ListN.{drop}
 use Rattle.exact.specs.Choice.{if_then_else_}
 use Rattle.exact.specs.Whole.{upTo}
 use Rattle.tariff.specs.declared.Expected.the-variants.{Says}
 use Rattle.tariff.specs.declared.Marks.{Marks}
-use Rattle.tariff.specs.Reply.{Reply, paid, refused, told, otherwise}
+use Rattle.tariff.specs.Reply.{Reply, otherwise}
+use Rattle.tariff.specs.Total.{Sum, none, sumOf}
 use Rattle.tariff.specs.Eligible.{excluded}
 use Rattle.lines.specs.Pieces.{restAfter, isSome}
-use Rattle.sheet.specs.Block.{blockOf, replyTo}
+use Rattle.blocks.specs.Block.{blockOf}
+use Rattle.sheet.specs.Settle.{replyTo}
 use Rattle.header.specs.Header.{headerFault, marksUnder, nextUnder}
-use Rattle.ledger.specs.declared.Place.{Place}
-use Rattle.ledger.specs.declared.Total.{Total}
-use Rattle.ledger.specs.declared.Total.the-variants.{Of, Withheld}
 
 -- ---- the blocks: what stands behind the header, cut at its empty lines
 
@@ -40,29 +39,5 @@ dayReplies hours s = upTo (dayReply hours s) hours
 
 -- ---- the total: the sum of the paid cents, or none where an hour was refused or bytes follow the last block
 
-pub data Sum : Type 0 where
-  total : (cents : ℤ) → Sum
-  none : Sum
-
-infixl 4 _plus_
-abbrev pub _plus_ : Sum → Reply → Sum
-(total c) plus (paid grains cents) = total (c +ℤ cents)
-(total c) plus (refused number place) = none
-none plus reply = none
-
-unfoldable pub sumOf : (ℕ → Reply) → ℕ → Sum
-sumOf reply zero = total (pos 0)
-sumOf reply (suc n) = sumOf reply n plus reply n
-
 unfoldable pub dayTotal : ℕ → List ℕ → Sum
 dayTotal hours s = if isSome (restAfter hours (bodyOf hours s)) then none else sumOf (dayReply hours s) hours
-
--- ---- what the code gives back, in these words
-
-abbrev pub toldTotal : Total → Sum
-toldTotal (Of cents) = total (cents .0)
-toldTotal Withheld = none
-
-unfoldable pub toldAll : List Place → List Reply
-toldAll [] = []
-toldAll (p ∷ ps) = told (p .answer) ∷ toldAll ps

@@ -15,11 +15,12 @@ use Rattle.tariff.specs.Units.{centsOf}
 use Rattle.tariff.specs.Reply.{Reply, paid}
 use Rattle.tariff.specs.Eligible.{marked}
 use Rattle.lines.specs.Pieces.{restAfter, isSome}
-use Rattle.sheet.specs.Block.{blockOf, replyTo}
+use Rattle.blocks.specs.Block.{blockOf}
+use Rattle.sheet.specs.Settle.{replyTo}
 use Rattle.ledger.specs.declared.Day.{Day}
-use Rattle.ledger.specs.declared.Total.the-variants.{Withheld}
-use Rattle.ledger.specs.declared.blocks.Settled.{Settled}
-use Rattle.ledger.specs.Day.{Sum, total, none, _plus_, sumOf, toldTotal, toldAll}
+use Rattle.tariff.specs.declared.Total.the-variants.{Withheld}
+use Rattle.ledger.specs.declared.hours.Settled.{Settled}
+use Rattle.tariff.specs.Total.{Sum, total, none, _plus_, sumOf, toldTotal, toldAll}
 
 -- ---- one answer more
 

@@ -2,26 +2,16 @@
 ghost use mathlib.Core.Path.{_≡_};
 ghost use Rattle.tariff.specs.Reply.{shown};
 ghost use Rattle.header.specs.Header.{headerFault};
-ghost use Rattle.ledger.specs.Day.{dayReplies, dayTotal, toldTotal, toldAll};
+ghost use Rattle.ledger.specs.Day.{dayReplies, dayTotal};
+ghost use Rattle.tariff.specs.Total.{toldTotal, toldAll};
 ghost use Rattle.ledger.specs.Walk.{refusedDay};
 use tariff::Answer;
-use tariff::Cents;
 use tariff::Check;
 use tariff::Found;
+use tariff::Place;
+use tariff::Total;
 
-mod blocks;
-
-// The answer of a block place: a struct, since an array of enums cannot be a field.
-pub struct Place {
-    pub answer: Answer,
-}
-
-// The sum of the paid cents. It is withheld where an hour was refused or bytes follow the last block, so that a refused hour never
-// hides behind a total.
-pub enum Total {
-    Of(Cents),
-    Withheld,
-}
+mod hours;
 
 // A settled day: the header's fault or none, the answer of each hour, and the total.
 pub struct Day {
@@ -56,7 +46,7 @@ pub fn settle_day(sheet: &[u8]) -> Day
     }
     let marks = header.marks;
     let at = header.next;
-    let settled = blocks::settle_blocks(sheet, at, marks::excluded_hours(marks), 24);
+    let settled = hours::settle_hours(sheet, at, marks::excluded_hours(marks), 24);
     let hours = settled.hours;
     let total = settled.total;
     Day {

@@ -16,10 +16,10 @@ use Rattle.text.specs.declared.Number.the-variants.{Got, Bad}
 use Rattle.text.specs.declared.Next.{Next}
 use Rattle.text.specs.declared.Next.the-variants.{At, Wrong}
 use Rattle.text.specs.Text.{byteAt, keyAt}
-use Rattle.text.specs.Number.{digitOf, digitAt, moreDigits, naturalAt, plain, negative, numberAt}
-use Rattle.lines.specs.Keys.{keys, keyOf}
-use Rattle.lines.specs.Line.{missing, orMissing, valueAt, valueAfter, fieldAt, placeOf, valueOf, andThen, afterFields, valueFrom, valueIn, lineFeed, lineAt, closes}
-use Rattle.lines.proofs.Table.{table-all}
+use Rattle.text.specs.Number.{digitOf, digitAt, moreDigits, naturalAt, plain, negative, numberAt, missing}
+use Rattle.keys.specs.Keys.{keys, keyOf}
+use Rattle.lines.specs.Line.{orMissing, valueAt, valueAfter, fieldAt, placeOf, valueOf, andThen, afterFields, valueFrom, valueIn, lineFeed, lineAt, closes}
+use Rattle.keys.proofs.AllKeys.{table-all}
 
 -- ---- the same answer of two readings, whose next place, if any, is at most m
 

@@ -12,16 +12,16 @@ use lib.IntN.{ℤ, pos, negℤ}
 use Rattle.exact.specs.Choice.{if_then_else_}
 use Rattle.exact.proofs.Tests.{and-left, and-right}
 use Rattle.text.specs.Text.{byteAt, keyAt}
-use Rattle.text.specs.Number.{digitOf, digitAt, moreDigits, naturalAt, plain, negative, numberAt}
-use Rattle.lines.specs.Keys.{keys, keyOf}
-use Rattle.lines.specs.Line.{missing, orMissing, valueAt, valueAfter, fieldAt, placeOf, valueOf, andThen, afterFields, valueFrom, valueIn}
+use Rattle.text.specs.Number.{digitOf, digitAt, moreDigits, naturalAt, plain, negative, numberAt, missing}
+use Rattle.keys.specs.Keys.{keys, keyOf}
+use Rattle.lines.specs.Line.{orMissing, valueAt, valueAfter, fieldAt, placeOf, valueOf, andThen, afterFields, valueFrom, valueIn}
 use Rattle.text.specs.declared.digits.Digits.{Digits}
 use Rattle.text.specs.declared.digits.Digits.the-variants.{Natural, NoDigits}
 use Rattle.text.specs.declared.Number.{Number}
 use Rattle.text.specs.declared.Number.the-variants.{Got, Bad}
 use Rattle.text.specs.declared.Next.{Next}
 use Rattle.text.specs.declared.Next.the-variants.{At, Wrong}
-use Rattle.lines.proofs.Table.{table-all}
+use Rattle.keys.proofs.AllKeys.{table-all}
 
 -- the end of a line, or of the text
 abbrev pub closing : ℕ → Bool

@@ -17,7 +17,7 @@ use Rattle.text.specs.Text.{byteAt, keyAt}
 use Rattle.text.specs.declared.Number.the-variants.{Bad}
 use Rattle.text.specs.declared.Next.{Next}
 use Rattle.text.specs.declared.Next.the-variants.{At, Wrong}
-use Rattle.lines.specs.Keys.{keyOf}
+use Rattle.keys.specs.Keys.{keyOf}
 use Rattle.lines.specs.Line.{placeIn, fieldAt, andThen, afterFields, valueIn, lineFeed, lineAt, closes}
 use Rattle.lines.proofs.Along.{closing, Along, Moved, both, neither, choose, never-at, moved-then, fields-along, values-along}
 

@@ -1,40 +1,15 @@
--- Arrays: the values of one that are read back from their bits, and one that is filled from the front.
-use mathlib.Core.Path.{_≡_, refl, sym, _∙_, fun-ext}
+-- An array that is filled from the front.
+use mathlib.Core.Path.{_≡_, sym, _∙_}
 use mathlib.Core.List.{List, [], _∷_, append-assoc}
-use Prim.Native.Nat.{ℕ, zero, suc, _+_, _-_, _≤_, _<_, _^_}
+use Prim.Native.Nat.{ℕ, zero, suc, _+_, _-_, _≤_, _<_}
 use native.Mathlib.Numerals.{add-one}
 use native.Mathlib.Nat.{add-zero, add-suc}
 use native.Mathlib.Omega.{arith}
-use lib.IntN.{ℤ, pos}
-use lib.Signed.{mag}
 use lib.ListN.{getD, set, List·getD-append}
 use lib.Seq.{append-snoc, set-at}
-use mir.Syntax.{w64}
-use mir.Val.{Val}
-use denote.Array.{each}
-use denote.Shadow.{shadow}
-use denote.Signed.{SInt}
 use Rattle.exact.specs.Whole.{upTo}
 use Rattle.exact.proofs.Sums.{up-length, up-at, up-same}
-use Rattle.exact.proofs.Bits.{held, handed}
 use Rattle.lines.specs.Line.{filled}
-
--- ---- an array of `i64`
-
-pub held-is : (z w : ℤ) → mag z < 2 ^ 63 → z ≡ w → held z ≡ w
-held-is z w f e = handed z f ∙ e
-
-each-small : (xs : List ℤ) (us : List Val) (i : ℕ) → shadow (each ℤ (SInt w64 .own) xs us) → mag (getD xs i (pos 0)) < 2 ^ 63
-each-small [] us i s = omega arith
-each-small (x ∷ xs) [] i s = absurd s
-each-small (x ∷ xs) (u ∷ us) zero s = s .0 .1
-each-small (x ∷ xs) (u ∷ us) (suc i) s = each-small xs us i (s .1)
-
-pub held-values : (xs : List ℤ) (us : List Val) → shadow (each ℤ (SInt w64 .own) xs us)
-    → _≡_ {A = ℕ → ℤ} (λ n. held (getD xs n (pos 0))) (λ n. getD xs n (pos 0))
-held-values xs us s = fun-ext (λ n. held-is (getD xs n (pos 0)) _ (each-small xs us n s) refl)
-
--- ---- the first of an array are filled
 
 pub filled-same {ℓ} : {A : Type ℓ} (f g : ℕ → A) (d : A) (n total : ℕ) → ((j : ℕ) → j < n → f j ≡ g j) → filled n total f d ≡ filled n total g d
 filled-same f g d n total h = rw (up-same f g n h)

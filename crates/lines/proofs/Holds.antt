@@ -13,9 +13,9 @@ use Rattle.exact.specs.Choice.{if_then_else_}
 use Rattle.exact.specs.Whole.{Within}
 use Rattle.exact.proofs.Parts.{by-test}
 use Rattle.text.specs.Text.{byteAt, keyAt}
-use Rattle.text.specs.Number.{digitOf, digitAt, moreDigits, naturalAt, numberAt}
-use Rattle.lines.specs.Line.{missing, orMissing, valueAt}
-use Rattle.lines.specs.Print.{natural, number}
+use Rattle.text.specs.Number.{digitOf, digitAt, moreDigits, naturalAt, numberAt, missing}
+use Rattle.lines.specs.Line.{orMissing, valueAt}
+use Rattle.text.specs.Decimal.{natural, number}
 use Rattle.text.specs.declared.digits.Digits.the-variants.{Natural, NoDigits}
 use Rattle.text.specs.declared.Number.the-variants.{Got}
 use Rattle.text.specs.declared.Next.the-variants.{At}

@@ -1,6 +1,5 @@
 -- Laws that the proofs of the crate's functions cite, and those by which texts of lines are compared and printed.
 pub mod Fill
-pub mod Table
 pub mod Lines
 pub mod Whole
 pub mod Rows

@@ -12,7 +12,7 @@ use Rattle.text.specs.Text.{byteAt}
 use Rattle.text.specs.declared.Next.{Next}
 use Rattle.text.specs.declared.Next.the-variants.{At}
 use Rattle.text.proofs.Numbers.{inside-same, byte-inside}
-use Rattle.lines.specs.Keys.{keyOf}
+use Rattle.keys.specs.Keys.{keyOf}
 use Rattle.lines.specs.Line.{andThen, afterFields, lineFeed, lineAt}
 use Rattle.lines.specs.Cut.{emptyIn}
 use Rattle.lines.proofs.Along.{closing, Along, never-at, went, unmoved-within, fields-along}

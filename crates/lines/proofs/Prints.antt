@@ -11,12 +11,12 @@ use lib.Dec.{eqb}
 use lib.IntN.{ℤ, pos}
 use lib.ListN.{length, getD}
 use Rattle.text.specs.Number.{digitOf, digitAt}
-use Rattle.lines.specs.Keys.{keys, keyOf}
+use Rattle.keys.specs.Keys.{keys, keyOf}
 use Rattle.lines.specs.Line.{fieldAt, afterFields, valueIn, lineAt}
 use Rattle.lines.specs.Print.{fields, line}
 use Rattle.text.specs.declared.Number.the-variants.{Got}
 use Rattle.text.specs.declared.Next.the-variants.{At}
-use Rattle.lines.proofs.Table.{table-at}
+use Rattle.keys.proofs.AllKeys.{table-at}
 use Rattle.lines.proofs.Holds.{Holds, holds-split, after-both, holds-key, Says}
 
 -- ---- no key begins with a digit

@@ -14,7 +14,7 @@ use Rattle.exact.proofs.Parts.{by-test}
 use Rattle.text.specs.declared.Next.{Next}
 use Rattle.text.specs.declared.Next.the-variants.{At, Wrong}
 use Rattle.lines.specs.Line.{valueIn, lineAt, closes, filled}
-use Rattle.lines.specs.Rows.{rowPlace, rowFrom, rowIn, counted, brokenRow, rowAfterLine, rowsAt, RowsFound}
+use Rattle.lines.specs.Rows.{rowPlace, rowFrom, rowIn, Rows, counted, brokenRow, rowAfterLine, rowsAt, RowsFound}
 use Rattle.lines.proofs.Fill.{fill-next}
 
 -- ---- one turn
@@ -56,6 +56,31 @@ module _ (first fields before : ℕ) where
       by-test (closes s at) (λ b. (if b then counted i else rowAfterLine (lineAt first fields s at) (i + before) (λ next. rowsAt first fields before left s next (i + 1))) ≡ counted n → n ≤ i + suc left)
       (λ t e. let q : i ≡ n = cc in omega arith)
       (λ t e. after-few left s i n (lineAt first fields s at) (λ next. rows-few left s next (i + 1) n) e)
+
+-- ---- lines count from 1
+
+not-counted : (n line : ℕ) → counted n ≡ brokenRow line → ⊥
+not-counted n line e = let z : _≡_ {A = ℕ} 0 1 = cc in omega arith
+
+row-of : (k l : ℕ) → brokenRow k ≡ brokenRow l → k ≡ l
+row-of k l e = cc
+
+row-line : (line : ℕ) (rest : ℕ → Rows) → 1 ≤ line → ((next : ℕ) → rest next ≡ brokenRow 0 → ⊥) → (next : Next) → rowAfterLine next line rest ≡ brokenRow 0 → ⊥
+row-line line rest some later (At next) u = later next u
+row-line line rest some later Wrong u = let z = row-of line 0 u in omega arith
+
+pub rows-line : (first fields firstLine left : ℕ) (s : List ℕ) (at i : ℕ) → rowsAt first fields (suc firstLine) left s at i ≡ brokenRow 0 → ⊥
+unfolding rowsAt
+rows-line first fields firstLine zero s at i =
+    by-test (closes s at) (λ b. (if b then counted i else brokenRow (i + suc firstLine)) ≡ brokenRow 0 → ⊥)
+    (λ e u. not-counted i 0 u)
+    (λ e u. let z = row-of (i + suc firstLine) 0 u in omega arith)
+rows-line first fields firstLine (suc left) s at i =
+    let rest : ℕ → Rows = λ next. rowsAt first fields (suc firstLine) left s next (i + 1) in
+    by-test (closes s at)
+    (λ b. (if b then counted i else rowAfterLine (lineAt first fields s at) (i + suc firstLine) rest) ≡ brokenRow 0 → ⊥)
+    (λ e u. not-counted i 0 u)
+    (λ e. row-line (i + suc firstLine) rest (omega arith) (λ next. rows-line first fields firstLine left s next (i + 1)) (lineAt first fields s at))
 
 -- ---- the loop
 

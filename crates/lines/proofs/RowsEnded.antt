@@ -6,7 +6,7 @@ use Prim.Native.Nat.{ℕ, zero, suc, _+_, _≤_}
 use lib.IntN.{ℤ}
 use Rattle.exact.specs.Choice.{if_then_else_}
 use Rattle.text.specs.declared.Next.{Next}
-use Rattle.lines.specs.Keys.{keyOf}
+use Rattle.keys.specs.Keys.{keyOf}
 use Rattle.lines.specs.Line.{closes}
 use Rattle.lines.specs.Rows.{rowPlace, rowFrom, rowIn, Rows, counted, rowAfterLine, rowsAt}
 use Rattle.lines.proofs.Along.{Moved, both, neither, moved-then}

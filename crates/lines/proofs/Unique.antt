@@ -1,15 +1,11 @@
 -- No two different replies satisfy the contract of a public function.
 use Rattle.exact.proofs.Unique.{one, OneReply}
-use Rattle.lines.proofs.key_number.Reads as key-number
 use Rattle.lines.proofs.fields_at.Reads as fields-at
 use Rattle.lines.proofs.line_end.Reads as line-end
 use Rattle.lines.proofs.is_closed.Reads as is-closed
 use Rattle.lines.proofs.is_whole.Reads as is-whole
 use Rattle.lines.proofs.empty_line.Reads as empty-line
 use Rattle.lines.proofs.piece_after.Reads as piece-after
-
-pub one-key-number : OneReply key-number.Post
-one-key-number κ a r s u v p q = one r s p q
 
 pub one-fields-at : OneReply fields-at.Post
 one-fields-at κ a r s u v p q = one r s p q

@@ -1,5 +1,4 @@
 -- Lines of keys and numbers, as document 01 prints them, and the text cut at its empty lines.
-pub mod Keys
 pub mod Line
 pub mod Rows
 pub mod Print

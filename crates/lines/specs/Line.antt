@@ -13,13 +13,10 @@ use Rattle.text.specs.declared.Next.{Next}
 use Rattle.text.specs.declared.Next.the-variants.{At, Wrong}
 use Rattle.lines.specs.declared.Fields.{Fields}
 use Rattle.text.specs.Text.{byteAt, keyAt}
-use Rattle.text.specs.Number.{numberAt}
-use Rattle.lines.specs.Keys.{keys, keyOf}
+use Rattle.text.specs.Number.{missing, numberAt}
+use Rattle.keys.specs.Keys.{keys, keyOf}
 
--- only `uol` may be missing, as a minus alone: read as a number that seven digits cannot say
-abbrev pub missing : ℤ
-missing = pos 10000000
-
+-- only `uol` may be missing, as a minus alone
 abbrev pub orMissing : Number → List ℕ → ℕ → Number
 orMissing (Got v next) s at = Got v next
 orMissing Bad s at = if eqb (byteAt s at) 45 then Got missing (at + 1) else Bad

@@ -3,7 +3,6 @@ ghost use mathlib.Core.Path.{_≡_};
 ghost use Prim.Native.Nat.{_+_, _≤_};
 ghost use Rattle.lines.specs.Line.{valueAt, valueAfter, fieldAt, fieldsAt, noFields};
 use crate::Fields;
-use crate::key_number;
 use text::Next;
 use text::Number;
 
@@ -39,7 +38,7 @@ pub fn value_after(s: &[u8], next: Next, k: usize) -> Number
 pub fn field_at(s: &[u8], at: usize, k: usize) -> Number
     ensures { λ r. ⌜ r ≡ fieldAt k (now (s .entry)) at ⌝ }
 {
-    value_after(s, key_number(s, at, k), k)
+    value_after(s, keys::key_number(s, at, k), k)
 }
 
 // `count` fields from key `first` on: the one loop over a line's keys.

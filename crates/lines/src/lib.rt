@@ -1,32 +1,13 @@
-// Lines of keys and values: the one table of keys and the one way to read fields, whatever the lines are of. Every call takes any
+// Lines of keys and values: the one way to read fields, whatever the lines are of. Every call takes any
 // text, any place and any numbers.
 ghost use mathlib.Core.Path.{_≡_};
 ghost use lib.ListN.{drop};
-ghost use Rattle.text.specs.Text.{keyAt};
-ghost use Rattle.lines.specs.Keys.{keyOf};
 ghost use Rattle.lines.specs.Cut.{emptyIn};
 ghost use Rattle.lines.specs.Pieces.{pieceAfter};
 ghost use Rattle.lines.specs.Line.{fieldsAt, andThen, lineFeed, closes, endsEmpty};
 use text::Next;
 
 mod field;
-mod keys;
-
-// Key k at a place. A number past the table's is the empty key, which stands anywhere.
-pub fn key_number(s: &[u8], at: usize, k: usize) -> Next
-    ensures { λ r. ⌜ r ≡ keyAt (keyOf k) (now (s .entry)) at ⌝ }
-{
-    if k < 16 {
-        return keys::hour_key(s, at, k);
-    }
-    if k < 36 {
-        return keys::interval_key(s, at, k);
-    }
-    if k < 58 {
-        return keys::other_key(s, at, k);
-    }
-    Next::At(at)
-}
 
 // The values of a line's fields, and the place after them.
 pub struct Fields {

@@ -1,10 +1,12 @@
 -- The words of the rule's parts joined and masked are the word of the hours that the rule excludes.
-use mathlib.Core.Path.{_≡_, refl, sym, _∙_, ap}
-use mathlib.Core.Bool.{Bool, true, false, _&&_, _||_, or-false}
-use Prim.Native.Nat.{ℕ, _-_, _^_, _<_}
+use mathlib.Core.Path.{_≡_, refl, _∙_, ap}
+use mathlib.Core.Bool.{Bool, true, false, _&&_, _||_}
+use Prim.Native.Nat.{ℕ, _-_, _%_, _^_, _<_}
+use native.Mathlib.Nat.{zero-div}
 use lib.Dec.{eqb}
 use lib.ListN.{getD}
 use lib.Bits.{bitAnd, bitOr}
+use Rattle.exact.specs.Choice.{if_then_else_}
 use Rattle.tariff.specs.declared.Marks.{Marks}
 use Rattle.tariff.specs.Eligible.{marked, markedNear, excluded}
 use Rattle.marks.specs.Word.{word}
@@ -32,22 +34,16 @@ module _ (n : ℕ) (m : Marks) where
         (or-marks _ (m .x3) h (or-marks _ (m .x2) h (or-marks none (m .x1) h (holds without none h e u) refl) refl) refl)
         (holds (markedNear n (m .x4)) s4 h e4 u)
 
-    pub excluded-plain : m .rtc ≡ false → bitAnd joinedAlways day ≡ word n (excluded n m)
-    unfolding excluded
-    excluded-plain off =
-        ap (bitAnd joinedAlways) mask
-        ∙ masked joinedAlways n (excluded n m)
-        (λ h u.
-        always-at h u
-        ∙ sym (or-false (always h))
-        ∙ (λ i. always h || (sym off i && (markedNear n (m .x5) h || markedNear n (m .x6) h))))
+    -- x5 and x6, near, where `rtc` is set
+    near-at : (s5 s6 h : ℕ) → h < n → s5 ≡ word n (markedNear n (m .x5)) → s6 ≡ word n (markedNear n (m .x6)) → (rtc : Bool)
+        → marked (if rtc then bitOr s5 s6 else 0) h ≡ (rtc && (markedNear n (m .x5) h || markedNear n (m .x6) h))
+    near-at s5 s6 h u e5 e6 true = or-marks s5 s6 h (holds _ s5 h e5 u) (holds _ s6 h e6 u)
+    near-at s5 s6 h u e5 e6 false = ap (λ (x : ℕ). eqb (x % 2) 1) (zero-div (2 ^ h))
 
-    pub excluded-rtc : (s5 s6 : ℕ) → m .rtc ≡ true → s5 ≡ word n (markedNear n (m .x5)) → s6 ≡ word n (markedNear n (m .x6))
-        → bitAnd (bitOr joinedAlways (bitOr s5 s6)) day ≡ word n (excluded n m)
+    pub excluded-all : (s5 s6 w : ℕ) → s5 ≡ word n (markedNear n (m .x5)) → s6 ≡ word n (markedNear n (m .x6))
+        → w ≡ (if m .rtc then bitOr s5 s6 else 0) → bitAnd (bitOr joinedAlways w) day ≡ word n (excluded n m)
     unfolding excluded
-    excluded-rtc s5 s6 on e5 e6 =
-        ap (bitAnd (bitOr joinedAlways (bitOr s5 s6))) mask
-        ∙ masked (bitOr joinedAlways (bitOr s5 s6)) n (excluded n m)
-        (λ h u.
-        or-marks _ (bitOr s5 s6) h (always-at h u) (or-marks s5 s6 h (holds _ s5 h e5 u) (holds _ s6 h e6 u))
-        ∙ (λ i. always h || (sym on i && (markedNear n (m .x5) h || markedNear n (m .x6) h))))
+    excluded-all s5 s6 w e5 e6 f =
+        ap (bitAnd (bitOr joinedAlways w)) mask
+        ∙ masked (bitOr joinedAlways w) n (excluded n m)
+        (λ h u. or-marks _ w h (always-at h u) (ap (λ (x : ℕ). marked x h) f ∙ near-at s5 s6 h u e5 e6 (m .rtc)))

@@ -2,6 +2,7 @@
 ghost use mathlib.Core.Path.{_≡_};
 ghost use Prim.Native.Nat.{_-_, _^_, _<_, _≤_};
 ghost use lib.Dec.{eqb};
+ghost use Rattle.exact.specs.Choice.{if_then_else_};
 ghost use lib.ListN.{getD};
 ghost use Rattle.tariff.specs.Eligible.{markedNear, excluded};
 ghost use Rattle.marks.specs.Word.{word};
@@ -42,7 +43,14 @@ pub fn no_category(cat: [u8; 24], hours: u32) -> u32
     row
 }
 
-// The excluded hours. x5 and x6 are spread as x4 is, and count with `rtc` alone.
+// x5 and x6 count with `rtc` alone.
+pub fn with_rtc(rtc: bool, row: u32) -> u32
+    ensures { λ r. ⌜ r ≡ (if rtc then row else 0) ⌝ }
+{
+    if rtc { row } else { 0 }
+}
+
+// The excluded hours. x5 and x6 are spread as x4 is.
 pub fn excluded_in(m: Marks, hours: u32) -> u32
     requires { ⌜ hours ≤ 24 ⌝ }
     ensures { λ r. ⌜ r ≡ word hours (excluded hours m) ⌝ }
@@ -53,8 +61,5 @@ pub fn excluded_in(m: Marks, hours: u32) -> u32
     let near_x5 = spread(m.x5, hours);
     let near_x6 = spread(m.x6, hours);
     let always = no_category(cat, hours) | m.x1 | m.x2 | m.x3 | near_x4;
-    if m.rtc {
-        return (always | (near_x5 | near_x6)) & day;
-    }
-    always & day
+    (always | with_rtc(m.rtc, near_x5 | near_x6)) & day
 }

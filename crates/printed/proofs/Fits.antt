@@ -16,29 +16,16 @@ use Rattle.tariff.specs.Hour.{contribution, reply}
 use Rattle.tariff.specs.Import as import
 use Rattle.tariff.proofs.Replies.{paid-passes}
 use Rattle.text.specs.Text.{bytes}
-use Rattle.lines.specs.Print.{natural}
-use Rattle.sheet.specs.Block.{Block, broken, read, blockOf, replyTo, hourSaid}
+use Rattle.text.specs.Decimal.{natural}
+use Rattle.blocks.specs.Block.{Block, broken, read, blockOf}
+use Rattle.sheet.specs.Settle.{replyTo, hourSaid}
 use Rattle.header.specs.Header.{headerFault}
-use Rattle.ledger.specs.Day.{Sum, total, none, dayReply, dayReplies, dayTotal}
+use Rattle.tariff.specs.Total.{Sum, total, none}
+use Rattle.ledger.specs.Day.{dayReply, dayReplies, dayTotal}
 use Rattle.imports.specs.Import.{importReply}
-use Rattle.printed.specs.Printed.{
-  count,
-  signed,
-  refusedLine,
-  payLine,
-  intervalLine,
-  numbered,
-  answerText,
-  contributionsOf,
-  hourText,
-  hourLine,
-  totalLine,
-  dayLines,
-  dayText,
-  hourOrNone,
-  importLine,
-  importText,
-}
+use Rattle.page.specs.Numerals.{count, signed}
+use Rattle.answers.specs.Answers.{refusedLine, payLine, intervalLine, numbered, answerText, hourLine, totalLine, dayLines, hourOrNone, importLine}
+use Rattle.printed.specs.Printed.{contributionsOf, hourText, dayText, importText}
 
 natural-short : (left n : ℕ) → length (natural left n) ≤ left
 unfolding natural

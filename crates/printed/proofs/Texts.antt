@@ -15,12 +15,15 @@ use Rattle.tariff.specs.declared.Hour.{Hour}
 use Rattle.tariff.specs.declared.Expected.the-variants.{Any}
 use Rattle.tariff.specs.Reply.{Reply, paid, refused, Verdict}
 use Rattle.tariff.specs.Hour.{contribution, rowFor, rowAfter, reply}
-use Rattle.sheet.specs.Block.{Block, broken, read, blockOf, replyTo, rowTo, hourSaid, countSaid}
+use Rattle.blocks.specs.Block.{Block, broken, read, blockOf}
+use Rattle.sheet.specs.Settle.{replyTo, rowTo, hourSaid, countSaid}
 use Rattle.header.specs.Header.{headerFault}
-use Rattle.ledger.specs.Day.{Sum, dayReplies, dayTotal}
-use Rattle.printed.specs.Page.{written, Put}
-use Rattle.printed.specs.Printed.{answerText, contributionsOf, hourText, dayLines, dayText}
-use Rattle.printed.proofs.Pages.{put-length}
+use Rattle.tariff.specs.Total.{Sum}
+use Rattle.ledger.specs.Day.{dayReplies, dayTotal}
+use Rattle.page.specs.Page.{written, Put}
+use Rattle.answers.specs.Answers.{answerText, dayLines}
+use Rattle.printed.specs.Printed.{contributionsOf, hourText, dayText}
+use Rattle.page.proofs.Pages.{put-length}
 
 pub put-first : {row after : List ℕ} {next : ℕ} {text : List ℕ} → Put row 0 text after next
     → (after ≡ written row 0 text) × ((next ≡ min (length text) (length row)) × Counts next after)

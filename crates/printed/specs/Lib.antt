@@ -1,4 +1,2 @@
--- What the programs print, and bytes in a lent row.
-pub mod Page
+-- What each program prints of a text.
 pub mod Printed
-pub mod Examples

@@ -1,98 +1,28 @@
--- "Programs": what each program prints, byte by byte. Each line ends with LF.
+-- "Programs": what each program prints of a text.
 use mathlib.Core.Bool.{false}
-use mathlib.Core.List.{List, [], _∷_, _++_}
-use Prim.Native.Nat.{ℕ, suc}
-use lib.IntN.{ℤ, pos, negsuc}
+use mathlib.Core.List.{List, []}
+use Prim.Native.Nat.{ℕ}
+use lib.IntN.{ℤ}
 use Rattle.exact.specs.Whole.{upTo}
 use Rattle.tariff.specs.declared.Expected.the-variants.{Any}
-use Rattle.tariff.specs.Reply.{Reply, paid, refused, Verdict, clear, fault}
 use Rattle.tariff.specs.Hour.{contribution}
-use Rattle.tariff.specs.Import as import
-use Rattle.text.specs.Text.{bytes}
-use Rattle.lines.specs.Print.{natural}
-use Rattle.sheet.specs.Block.{Block, broken, read, blockOf, replyTo, hourSaid}
+use Rattle.blocks.specs.Block.{Block, broken, read, blockOf}
+use Rattle.sheet.specs.Settle.{replyTo, hourSaid}
 use Rattle.header.specs.Header.{headerFault}
-use Rattle.ledger.specs.Day.{Sum, total, none, dayReplies, dayTotal}
+use Rattle.ledger.specs.Day.{dayReplies, dayTotal}
 use Rattle.imports.specs.Import.{importReply}
-
--- ---- numbers, in decimal. No number that the programs hold has more than 20 digits
-
-abbrev pub count : ℕ → List ℕ
-count n = natural 20 n
-
-abbrev pub signed : ℤ → List ℕ
-signed (pos n) = count n
-signed (negsuc n) = 45 ∷ count (suc n)
-
--- ---- a key and its number
-
-abbrev pub counted : List ℕ → ℕ → List ℕ
-counted key n = key ++ count n
-
-abbrev pub valued : List ℕ → ℤ → List ℕ
-valued key v = key ++ signed v
-
-abbrev pub feed : List ℕ
-feed = 10 ∷ []
-
--- ---- the lines
-
-abbrev pub refusedLine : (number place : ℕ) → List ℕ
-refusedLine number place = counted (bytes "refused=") number ++ counted (bytes " at=") place ++ feed
-
--- a payment behind the key and number of what is paid
-abbrev pub payLine : List ℕ → ℤ → (cents : ℤ) → List ℕ
-payLine key name cents = valued key name ++ valued (bytes " pay=") cents ++ feed
-
-abbrev pub intervalLine : ℕ → (grains : ℤ) → List ℕ
-intervalLine i grains = counted (bytes "i=") i ++ valued (bytes " grains=") grains ++ feed
-
--- a line for each entry of a list, numbered from k on
-unfoldable pub numbered : {A : Type 0} → (ℕ → A → List ℕ) → (k : ℕ) → List A → List ℕ
-numbered line k [] = []
-numbered line k (x ∷ xs) = line k x ++ numbered line (suc k) xs
-
--- ---- `hour`: each interval's grains, then the hour in cents, or the refusal alone
-
-abbrev pub answerText : (hour : ℤ) → (grains : List ℤ) → Reply → List ℕ
-answerText hour grains (paid sum cents) = numbered intervalLine 1 grains ++ payLine (bytes "hour=") hour cents
-answerText hour grains (refused number place) = refusedLine number place
+use Rattle.answers.specs.Answers.{answerText, dayLines, importLine}
 
 abbrev pub contributionsOf : Block → List ℤ
 contributionsOf (broken line) = []
 contributionsOf (read h) = upTo (contribution h false) (h .n)
 
--- taken as eligible and without check 3
+-- `hour`: its block is taken as eligible and without check 3
 unfoldable pub hourText : List ℕ → List ℕ
 hourText s = let b = blockOf s in answerText (hourSaid b) (contributionsOf b) (replyTo b false Any 30)
 
--- ---- `day`: a line for each block place, then the total, or a refused header's refusal alone
-
-abbrev pub hourLine : ℕ → Reply → List ℕ
-hourLine k (paid sum cents) = payLine (bytes "hour=") (pos k) cents
-hourLine k (refused number place) = counted (bytes "hour=") k ++ bytes " " ++ refusedLine number place
-
-abbrev pub totalLine : Sum → List ℕ
-totalLine (total cents) = valued (bytes "total=") cents ++ feed
-totalLine none = bytes "total=-\n"
-
-abbrev pub dayLines : Verdict → List Reply → Sum → List ℕ
-dayLines clear replies sum = numbered hourLine 0 replies ++ totalLine sum
-dayLines (fault number place) replies sum = refusedLine number place
-
 unfoldable pub dayText : (hours : ℕ) → List ℕ → List ℕ
 dayText hours s = dayLines (headerFault hours s) (dayReplies hours s) (dayTotal hours s)
-
--- ---- `import`: the payment, or the refusal with its hour
-
-abbrev pub hourOrNone : import.Where → List ℕ
-hourOrNone import.outside = bytes " hour=-"
-hourOrNone (import.inHour k) = counted (bytes " hour=") k
-
-abbrev pub importLine : import.ImportReply → List ℕ
-importLine (import.paid name grains cents) = payLine (bytes "import=") name cents
-importLine (import.refused number hour place) =
-    counted (bytes "refused=") number ++ hourOrNone hour ++ counted (bytes " at=") place ++ feed
 
 unfoldable pub importText : (hours : ℕ) → List ℕ → List ℕ
 importText hours s = importLine (importReply hours s)

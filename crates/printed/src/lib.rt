@@ -1,20 +1,16 @@
 // What the programs print: the text of each answer, byte by byte, into a row that the caller lends. A row that is too short gets the
 // text's beginning. Each call replies how many bytes it wrote; that they lie within the row follows, and is said so that a caller
 // can write them out as they stand. Nothing here writes to a file.
-mod answers;
-mod page;
-
 ghost use mathlib.Core.Path.{_≡_};
 ghost use Prim.Native.Nat.{min};
 ghost use lib.ListN.{length, take};
 ghost use Rattle.io.specs.Counts.{Counts};
 ghost use Rattle.tariff.specs.Reply.{told};
-ghost use Rattle.printed.specs.Page.{written};
-ghost use Rattle.printed.specs.Printed.{answerText, hourText, dayText, importText};
+ghost use Rattle.page.specs.Page.{written};
+ghost use Rattle.answers.specs.Answers.{answerText};
+ghost use Rattle.printed.specs.Printed.{hourText, dayText, importText};
 use tariff::Answer;
 use tariff::Expected;
-use tariff::Found;
-use tariff::ImportAnswer;
 
 // The text of an hour's answer, of which the first n entries of `grains` are the contributions.
 pub fn answer_text(hour: i64, grains: &[i64], n: usize, answer: Answer, row: &mut [u8]) -> usize
@@ -45,15 +41,9 @@ pub fn day_text(sheet: &[u8], row: &mut [u8]) -> usize
 {
     let day = ledger::settle_day(sheet);
     let header = day.header;
-    match header {
-        Found::Fault(check) => answers::put_refusal(row, 0, check),
-        Found::Nothing => {
-            let hours = day.hours;
-            let total = day.total;
-            let behind_hours = answers::put_hours(row, 0, hours);
-            answers::put_total(row, behind_hours, total)
-        }
-    }
+    let hours = day.hours;
+    let total = day.total;
+    answers::put_day(row, 0, header, hours, total)
 }
 
 // What `import` prints of a text.
@@ -62,9 +52,5 @@ pub fn import_text(text: &[u8], row: &mut [u8]) -> usize
     ensures count { λ r. ⌜ r ≡ min (length (importText 24 (now (text .entry)))) (length (now (row .entry))) ⌝ }
     ensures within { λ r. ⌜ Counts r (now (row .exit)) ⌝ }
 {
-    let answer = imports::settle_import(text);
-    match answer {
-        ImportAnswer::Refused(fault) => answers::put_fault(row, 0, fault),
-        ImportAnswer::Paid(name, _, cents) => answers::put_pay(row, 0, b"import=", name, cents),
-    }
+    answers::put_import(row, 0, imports::settle_import(text))
 }

@@ -7,9 +7,9 @@ use native.Mathlib.Nat.{le-refl}
 use lib.IntN.{ℤ, pos}
 use Rattle.exact.specs.Whole.{over}
 use Rattle.tariff.specs.Sheet.{liesIn}
-use Rattle.lines.specs.Keys.{keyOf}
+use Rattle.keys.specs.Keys.{keyOf}
 use Rattle.lines.specs.Line.{valueIn}
-use Rattle.sheet.specs.Block.{afterPairs, pairValue, endIn, priceIn, pairsAt, curveLine, curveFrom, curveOf}
+use Rattle.blocks.specs.CurveLine.{afterPairs, pairValue, endIn, priceIn, pairsAt, curveLine, curveFrom, curveOf}
 use Rattle.text.specs.declared.Next.{Next}
 use Rattle.lines.proofs.Along.{Along, Moved, both, neither, choose, moved-then, fields-along, values-along}
 use Rattle.lines.proofs.Ended.{Ended, opens, fields-closed, feed-along, last-or, values-ended}

@@ -15,7 +15,9 @@ use Rattle.tariff.specs.Demand.{Alike}
 use Rattle.text.specs.Text.{byteAt}
 use Rattle.lines.specs.Line.{andThen, valueIn, filled}
 use Rattle.lines.specs.Rows.{Rows, counted, brokenRow, rowsAt}
-use Rattle.sheet.specs.Block.{aheadOf, curveLine, curveOf, intervalOf, intervalAt, broken, read, withRows, afterLine2, blockAt, blockOf}
+use Rattle.records.specs.Records.{aheadOf, intervalOf}
+use Rattle.blocks.specs.CurveLine.{curveLine, curveOf}
+use Rattle.blocks.specs.Block.{intervalAt, broken, read, withRows, afterLine2, blockAt, blockOf}
 use Rattle.sheet.specs.Apart.{InThree, CurvesApart}
 use Rattle.text.specs.declared.Next.{Next}
 use Rattle.text.specs.declared.Next.the-variants.{At, Wrong}

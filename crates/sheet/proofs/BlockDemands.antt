@@ -10,13 +10,14 @@ use Rattle.tariff.specs.declared.Hour.{Hour}
 use Rattle.tariff.specs.declared.Expected.{Expected}
 use Rattle.tariff.specs.Reply.{clear, paid, refused, FORM, DERATE, REACH}
 use Rattle.tariff.specs.Hour.{form, range}
-use Rattle.tariff.specs.Demand.{MustPrice, priceIn, FirstUnpriced, FirstExceeded, Alike, NoFaultTo4, NoFaultTo5, Extends}
-use Rattle.sheet.specs.Block.{blockOf, broken, read, replyTo, rowTo}
+use Rattle.tariff.specs.Demand.{MustPrice, priceIn, FirstUnpriced, FirstExceeded, UnpricedBeforeDerate, ExceededBeforeReach, Alike, NoFaultTo4, NoFaultTo5, Extends}
+use Rattle.blocks.specs.Block.{blockOf, broken, read}
+use Rattle.sheet.specs.Settle.{replyTo, rowTo}
 use Rattle.sheet.specs.Apart.{CurvesApart}
 use Rattle.sheet.specs.Closed.{Closed}
 use Rattle.sheet.specs.Print.{textOf, Plain}
 use Rattle.sheet.proofs.Apart.{apart-alike, apart-broken}
-use Rattle.sheet.proofs.BlockReplies.{blocks-needed, block-reach, block-derate, blocks-extended}
+use Rattle.sheet.proofs.BlockReplies.{blocks-needed, block-reach, block-derate, block-reach-some, block-derate-some, blocks-extended}
 use Rattle.sheet.proofs.Local.{decided}
 use Rattle.sheet.proofs.Closing.{closed-or-ended, not-read}
 use Rattle.sheet.proofs.ReadsBack.{text-read, read-again}
@@ -62,6 +63,22 @@ pub block-derate-exactly-when-exceeded :
     → blockOf s ≡ read h
     → (replyTo (blockOf s) isExcluded expected room ≡ refused DERATE (i + 1)) ↔ (NoFaultTo5 h expected × FirstExceeded h isExcluded i)
 block-derate-exactly-when-exceeded = block-derate
+
+-- So a block is refused for reach exactly when no check from 1 to 5 refuses it, a kilowatt that some interval must price has no price, and
+-- no derate refusal falls in that interval or before it.
+pub block-refused-for-reach-exactly-when-some-kilowatt-is-unpriced :
+    (s : List ℕ) (h : Hour) (isExcluded : Bool) (expected : Expected) (room : ℕ)
+    → blockOf s ≡ read h
+    → ((place : ℕ) × (replyTo (blockOf s) isExcluded expected room ≡ refused REACH place)) ↔ (NoFaultTo5 h expected × UnpricedBeforeDerate h isExcluded)
+block-refused-for-reach-exactly-when-some-kilowatt-is-unpriced = block-reach-some
+
+-- And for derate exactly when no check from 1 to 5 refuses it, the reduction of some eligible interval exceeds the room for it, and no
+-- reach refusal falls before that interval.
+pub block-refused-for-derate-exactly-when-some-reduction-exceeds :
+    (s : List ℕ) (h : Hour) (isExcluded : Bool) (expected : Expected) (room : ℕ)
+    → blockOf s ≡ read h
+    → ((place : ℕ) × (replyTo (blockOf s) isExcluded expected room ≡ refused DERATE place)) ↔ (NoFaultTo5 h expected × ExceededBeforeReach h isExcluded)
+block-refused-for-derate-exactly-when-some-reduction-exceeds = block-derate-some
 
 -- Adding curve to a paid block never moves a cent, where the longer curves break no rule of checks 1 to 4: with every price that its
 -- curves had, and perhaps more, it pays the same and leaves the same row.

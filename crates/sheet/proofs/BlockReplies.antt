@@ -9,9 +9,17 @@ use lib.ListN.{length}
 use Rattle.tariff.specs.declared.Hour.{Hour}
 use Rattle.tariff.specs.declared.Expected.{Expected}
 use Rattle.tariff.specs.Reply.{paid, refused, DERATE, REACH}
-use Rattle.tariff.specs.Demand.{MustPrice, priceIn, FirstUnpriced, FirstExceeded, NoFaultTo4, NoFaultTo5, Extends}
-use Rattle.tariff.proofs.Demands.{only-needed-prices-matter, reach-exactly-when-unpriced, derate-exactly-when-exceeded, adding-curve-changes-nothing}
-use Rattle.sheet.specs.Block.{blockOf, read, replyTo, rowTo}
+use Rattle.tariff.specs.Demand.{MustPrice, priceIn, FirstUnpriced, FirstExceeded, UnpricedBeforeDerate, ExceededBeforeReach, NoFaultTo4, NoFaultTo5, Extends}
+use Rattle.tariff.proofs.Demands.{
+  only-needed-prices-matter,
+  reach-exactly-when-unpriced,
+  derate-exactly-when-exceeded,
+  refused-for-reach-exactly-when-some-kilowatt-is-unpriced,
+  refused-for-derate-exactly-when-some-reduction-exceeds,
+  adding-curve-changes-nothing,
+}
+use Rattle.blocks.specs.Block.{blockOf, read}
+use Rattle.sheet.specs.Settle.{replyTo, rowTo}
 use Rattle.sheet.specs.Apart.{CurvesApart}
 use Rattle.sheet.proofs.Apart.{apart-alike}
 
@@ -41,3 +49,11 @@ module _ (s : List ℕ) (h : Hour) (isExcluded : Bool) (expected : Expected) (ro
 
   pub block-derate : (replyTo (blockOf s) isExcluded expected room ≡ refused DERATE (i + 1)) ↔ (NoFaultTo5 h expected × FirstExceeded h isExcluded i)
   block-derate = rw x (derate-exactly-when-exceeded h isExcluded expected room i)
+
+-- at some place
+module _ (s : List ℕ) (h : Hour) (isExcluded : Bool) (expected : Expected) (room : ℕ) (x : blockOf s ≡ read h) where
+  pub block-reach-some : ((place : ℕ) × (replyTo (blockOf s) isExcluded expected room ≡ refused REACH place)) ↔ (NoFaultTo5 h expected × UnpricedBeforeDerate h isExcluded)
+  block-reach-some = rw x (refused-for-reach-exactly-when-some-kilowatt-is-unpriced h isExcluded expected room)
+
+  pub block-derate-some : ((place : ℕ) × (replyTo (blockOf s) isExcluded expected room ≡ refused DERATE place)) ↔ (NoFaultTo5 h expected × ExceededBeforeReach h isExcluded)
+  block-derate-some = rw x (refused-for-derate-exactly-when-some-reduction-exceeds h isExcluded expected room)

@@ -9,7 +9,8 @@ use Rattle.tariff.specs.declared.Curve.{Curve}
 use Rattle.text.specs.Text.{byteAt}
 use Rattle.lines.specs.Line.{valueIn}
 use Rattle.lines.specs.Rows.{Rows, counted, brokenRow, rowsAt}
-use Rattle.sheet.specs.Block.{intervalOf, intervalAt, broken, withRows, afterLine1, afterLine2, afterLine3, blockAt, blockOf}
+use Rattle.records.specs.Records.{intervalOf}
+use Rattle.blocks.specs.Block.{intervalAt, broken, withRows, afterLine1, afterLine2, afterLine3, blockAt, blockOf}
 use Rattle.sheet.specs.Closed.{Closed, atOnce, afterLine}
 use Rattle.text.specs.declared.Next.{Next}
 use Rattle.lines.specs.Pieces.{firstPiece}

@@ -13,7 +13,8 @@ use Rattle.tariff.specs.Reply.{refused, FORM, ROOM, Verdict, clear, unless, _th
 use Rattle.tariff.specs.Hour.{form, range, order, curves, secondsSum, intervals, hourSum, reply}
 use Rattle.tariff.proofs.Checks.{without-fault, without-unless, without-then, otherwise-refused}
 use Rattle.tariff.proofs.Numbers.{later-without, intervals-without}
-use Rattle.sheet.specs.Block.{Block, broken, read, blockOf, replyTo}
+use Rattle.blocks.specs.Block.{Block, broken, read, blockOf}
+use Rattle.sheet.specs.Settle.{replyTo}
 use Rattle.sheet.proofs.ReadHours.{Sound, read-sound}
 
 -- ---- no check after the first gives FORM

@@ -1,7 +1,4 @@
 -- What is proved of the sheet's definitions: `BlockDemands` states it. The others hold the laws that it and the functions' proofs cite.
-pub mod Curves
-pub mod Values
-pub mod Blocks
 pub mod AlongBlock
 pub mod Closing
 pub mod Apart

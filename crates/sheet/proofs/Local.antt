@@ -21,11 +21,13 @@ use Rattle.text.specs.declared.Next.the-variants.{At, Wrong}
 use Rattle.text.specs.Text.{byteAt}
 use Rattle.lines.specs.Line.{andThen, valueIn, lineFeed}
 use Rattle.lines.specs.Rows.{Rows}
-use Rattle.sheet.specs.Block.{afterPairs, pairValue, endIn, priceIn, pairsAt, curveLine, curveFrom, curveOf, intervalOf, intervalAt, read, withRows, afterLine3, afterLine2, afterLine1, blockAt, blockOf}
+use Rattle.blocks.specs.CurveLine.{afterPairs, pairValue, endIn, priceIn, pairsAt, curveLine, curveFrom, curveOf}
+use Rattle.records.specs.Records.{intervalOf}
+use Rattle.blocks.specs.Block.{intervalAt, read, withRows, afterLine3, afterLine2, afterLine1, blockAt, blockOf}
 use Rattle.lines.proofs.Fill.{filled-same}
 use Rattle.lines.proofs.Agree.{SamePlace, goes, stops, goes-on, fields, value, feed, line}
 use Rattle.lines.proofs.RowsAgree.{SameRows, rows, no-rows, row-agrees, rows-agree}
-use Rattle.sheet.proofs.Values.{interval-same, ahead-same}
+use Rattle.blocks.proofs.Values.{interval-same, ahead-same}
 
 -- a curve line: none, or the same curve up to the same place
 data SameCurve (m : ℕ) (c d : Curve) : Next → Next → Type 0 where

@@ -21,8 +21,9 @@ use Rattle.tariff.proofs.Tests.{and-both}
 use Rattle.tariff.proofs.Ranges.{CurveFits}
 use Rattle.text.specs.Number.{digitOf, digitAt}
 use Rattle.lines.specs.Line.{afterFields, valueIn}
-use Rattle.sheet.specs.Block.{afterPairs, endIn, priceIn, curveLine, curveOf}
-use Rattle.lines.specs.Print.{number, fields}
+use Rattle.blocks.specs.CurveLine.{afterPairs, endIn, priceIn, curveLine, curveOf}
+use Rattle.text.specs.Decimal.{number}
+use Rattle.lines.specs.Print.{fields}
 use Rattle.sheet.specs.Print.{pairs, curve, CurvePlain}
 use Rattle.text.specs.declared.Next.the-variants.{At}
 use Rattle.lines.proofs.Holds.{Holds, holds-split, after-both, holds-key, Says, number-said}

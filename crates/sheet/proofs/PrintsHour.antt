@@ -21,10 +21,13 @@ use Rattle.tariff.specs.declared.Hour.{Hour}
 use Rattle.tariff.specs.Sheet.{uolInRange, intervalInRange}
 use Rattle.tariff.specs.Hour.{interval}
 use Rattle.tariff.proofs.Ranges.{AheadFits, IntervalFits, interval-fits, uol-fits, capacity-within}
-use Rattle.lines.specs.Line.{missing, valueIn, lineAt, closes}
+use Rattle.text.specs.Number.{missing}
+use Rattle.lines.specs.Line.{valueIn, lineAt, closes}
 use Rattle.lines.specs.Rows.{rowPlace, rowIn, counted, rowsAt}
-use Rattle.sheet.specs.Block.{aheadOf, uolOf, intervalOf, intervalAt}
-use Rattle.lines.specs.Print.{number, fields, line}
+use Rattle.records.specs.Records.{aheadOf, uolOf, intervalOf}
+use Rattle.blocks.specs.Block.{intervalAt}
+use Rattle.text.specs.Decimal.{number}
+use Rattle.lines.specs.Print.{fields, line}
 use Rattle.sheet.specs.Print.{limit, ahead, amounts, intervals}
 use Rattle.text.specs.declared.Next.the-variants.{At}
 use Rattle.lines.proofs.Holds.{Holds, holds-split, after-both, Says, number-said, missing-said}

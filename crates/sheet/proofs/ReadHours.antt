@@ -17,7 +17,9 @@ use Rattle.tariff.specs.Hour.{blank, form}
 use Rattle.tariff.proofs.Tests.{and-right}
 use Rattle.lines.specs.Line.{andThen, afterFields, valueIn, lineFeed, lineAt, filled}
 use Rattle.lines.specs.Rows.{Rows, counted, brokenRow, rowsAt}
-use Rattle.sheet.specs.Block.{aheadOf, afterPairs, pairsAt, curveLine, curveFrom, curveOf, intervalAt, read, withRows, afterLine1, afterLine2, afterLine3, blockAt, blockOf}
+use Rattle.records.specs.Records.{aheadOf}
+use Rattle.blocks.specs.CurveLine.{afterPairs, pairsAt, curveLine, curveFrom, curveOf}
+use Rattle.blocks.specs.Block.{intervalAt, read, withRows, afterLine1, afterLine2, afterLine3, blockAt, blockOf}
 use Rattle.sheet.specs.Print.{CurvePlain, Plain}
 use Rattle.text.specs.declared.Next.{Next}
 use Rattle.text.specs.declared.Next.the-variants.{At, Wrong}

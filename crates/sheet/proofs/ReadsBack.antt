@@ -19,7 +19,8 @@ use Rattle.tariff.proofs.Tests.{and-left, and-right}
 use Rattle.tariff.proofs.Ranges.{ahead-fits, curve-fits, form-says, range-says}
 use Rattle.lines.specs.Line.{closes, valueIn}
 use Rattle.lines.specs.Rows.{counted, rowsAt}
-use Rattle.sheet.specs.Block.{curveLine, curveOf, withRows, afterLine2, blockAt, blockOf, read}
+use Rattle.blocks.specs.CurveLine.{curveLine, curveOf}
+use Rattle.blocks.specs.Block.{withRows, afterLine2, blockAt, blockOf, read}
 use Rattle.lines.specs.Print.{line}
 use Rattle.sheet.specs.Print.{ahead, curve, intervals, textOf, Plain}
 use Rattle.lines.proofs.Holds.{Holds, holds-split, holds-end}

@@ -5,7 +5,7 @@ use Prim.Native.Nat.{ℕ, _+_}
 use lib.ListN.{length}
 use Rattle.text.specs.declared.Next.the-variants.{At}
 use Rattle.lines.specs.Line.{andThen, lineAt}
-use Rattle.sheet.specs.Block.{curveLine}
+use Rattle.blocks.specs.CurveLine.{curveLine}
 
 -- line 1 of a text ends where `first` does, and its two curve lines where `curves` does
 pub record InThree (s first curves rest : List ℕ) : Type 0 where

@@ -14,9 +14,11 @@ use Rattle.text.specs.Text.{bytes, keyAt}
 use Rattle.text.specs.Number.{digitAt, moreDigits, naturalAt, numberAt}
 use Rattle.lines.specs.Line.{valueAt, fieldAt, afterFields, valueIn, lineAt, closes}
 use Rattle.lines.specs.Rows.{rowPlace, rowIn, counted, brokenRow, rowsAt}
-use Rattle.sheet.specs.Block.{Block, afterPairs, endIn, priceIn, curveLine, curveOf, intervalAt, blockAt, blockOf, broken, read}
+use Rattle.blocks.specs.Block.{Block, intervalAt, blockAt, blockOf, broken, read}
+use Rattle.blocks.specs.CurveLine.{afterPairs, endIn, priceIn, curveLine, curveOf}
 use Rattle.sheet.specs.Apart.{CurvesApart}
-use Rattle.lines.specs.Print.{natural, fields, line}
+use Rattle.text.specs.Decimal.{natural}
+use Rattle.lines.specs.Print.{fields, line}
 use Rattle.sheet.specs.Print.{pairs, curve, intervals, textOf}
 
 -- what a proof by computation opens

@@ -13,7 +13,8 @@ use Rattle.tariff.specs.Units.{kw, price}
 use Rattle.tariff.specs.Hour.{blank, interval}
 use Rattle.text.specs.Text.{bytes}
 use Rattle.lines.specs.Line.{filled}
-use Rattle.lines.specs.Print.{number, fields, line}
+use Rattle.text.specs.Decimal.{number}
+use Rattle.lines.specs.Print.{fields, line}
 
 abbrev pub limit : Uol → List ℕ
 limit Missing = bytes "-"

@@ -2,21 +2,18 @@
 ghost use mathlib.Core.Path.{_≡_};
 ghost use lib.ListN.{length};
 ghost use Rattle.tariff.specs.Reply.{told};
-ghost use Rattle.sheet.specs.Block.{blockOf, replyTo, rowTo, hourSaid, countSaid};
+ghost use Rattle.blocks.specs.Block.{blockOf};
+ghost use Rattle.sheet.specs.Settle.{replyTo, rowTo, hourSaid, countSaid};
 use tariff::Answer;
 use tariff::Check;
 use tariff::Expected;
-
-mod block;
-mod reader;
-mod rows;
 
 // Settles the hour block that begins at the first byte, read up to its first empty line or its end. Any bytes are judged.
 pub fn settle_block(block: &[u8], excluded: bool, expected: Expected, row: &mut [i64]) -> Answer
     ensures reply { λ r. ⌜ told r ≡ replyTo (blockOf (now (block .entry))) excluded expected (length (now (row .entry))) ⌝ }
     ensures row { λ r. ⌜ now (row .exit) ≡ rowTo (blockOf (now (block .entry))) excluded expected (now (row .entry)) ⌝ }
 {
-    let read = reader::hour_at(block, 0);
+    let read = blocks::read_hour(block);
     let broken = read.broken;
     if broken != 0 {
         return Answer::Refused(Check::Form(broken));
@@ -34,7 +31,7 @@ pub struct Said {
 pub fn said_by(block: &[u8]) -> Said
     ensures { λ r. ⌜ (r .hour ≡ hourSaid (blockOf (now (block .entry)))) × (r .n ≡ countSaid (blockOf (now (block .entry)))) ⌝ }
 {
-    let read = reader::hour_at(block, 0);
+    let read = blocks::read_hour(block);
     let broken = read.broken;
     if broken != 0 {
         return Said { hour: 0, n: 0 };

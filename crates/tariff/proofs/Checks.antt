@@ -1,8 +1,10 @@
 -- Laws of checks in their order: the first fault stands.
 use mathlib.Core.Path.{_≡_, refl, sym, _∙_, ap}
-use mathlib.Core.Bool.{Bool, true, false}
-use Prim.Native.Nat.{ℕ, zero, suc, _<_}
-use native.Mathlib.Decide.{decLt}
+use mathlib.Core.Bool.{Bool, true, false, false≢true}
+use mathlib.Core.Logic.{_↔_}
+use Prim.Native.Nat.{ℕ, zero, suc, _+_, _<_}
+use native.Mathlib.Nat.{add-zero, add-suc}
+use native.Mathlib.Decide.{ℕ-discrete, decLt}
 use native.Mathlib.Omega.{arith}
 use lib.IntN.{ℤ}
 use Rattle.tariff.specs.Reply.{Reply, paid, refused, Verdict, clear, fault, unless, _then_, otherwise, firstOf}
@@ -20,11 +22,19 @@ pub unless-clear : (b : Bool) (number place : ℕ) → unless b number place ≡
 unless-clear true number place e = refl
 unless-clear false number place e = absurd (never-clear e)
 
--- a fault that the last check cannot give stands among those before it
-pub then-fault : (v : Verdict) (b : Bool) (m p number place : ℕ) → (number ≡ m → ⊥) → (v then unless b m p) ≡ fault number place → v ≡ fault number place
-then-fault clear true m p number place h e = absurd (let z : _≡_ {A = ℕ} 0 1 = cc in omega arith)
-then-fault clear false m p number place h e = absurd (h (cc))
-then-fault (fault a b) t m p number place h e = e
+then-nothing : (v : Verdict) → (v then clear) ≡ v
+then-nothing clear = refl
+then-nothing (fault number place) = refl
+
+-- however they are bracketed
+pub then-assoc : (u v w : Verdict) → ((u then v) then w) ≡ (u then v then w)
+then-assoc clear v w = refl
+then-assoc (fault number place) v w = refl
+
+-- a rule's fault is given exactly when the rule is broken, and at its place
+pub unless-when : (b : Bool) (number at place : ℕ) → (unless b number at ≡ fault number place) ↔ ((b ≡ false) × (place ≡ at))
+unless-when true number at place = (λ e. absurd (never-clear (sym e)), λ w. absurd (false≢true (sym (w .0))))
+unless-when false number at place = (λ e. (refl, cc), λ w. rw (w .1))
 
 -- ---- a reply
 
@@ -42,6 +52,12 @@ pub first-same : (f g : ℕ → Verdict) (n : ℕ) → ((i : ℕ) → i < n → 
 unfolding firstOf
 first-same f g zero h = refl
 first-same f g (suc n) h = rw (first-same f g n (λ i u. h i (omega arith)), h n (omega arith))
+
+-- the first a of them, and then the others
+pub first-behind : (check : ℕ → Verdict) (a m : ℕ) → firstOf check (a + m) ≡ (firstOf check a then firstOf (λ i. check (a + i)) m)
+unfolding firstOf
+first-behind check a zero = rw add-zero (sym (then-nothing (firstOf check a)))
+first-behind check a (suc m) = rw (add-suc a m, first-behind check a m) (then-assoc (firstOf check a) (firstOf (λ i. check (a + i)) m) (check (a + m)))
 
 -- clear: every one is clear, and the other way round
 pub first-clear : (check : ℕ → Verdict) (n : ℕ) → firstOf check n ≡ clear → (i : ℕ) → i < n → check i ≡ clear
@@ -100,11 +116,6 @@ module _ (n : ℕ) where
   without-fault clear place h e = never-clear (sym e)
   without-fault (fault number at) place h e = h (cc)
 
-  -- such a fault is the next check's
-  pub without-clear : (v w : Verdict) (place : ℕ) → Without n v → (v then w) ≡ fault n place → (v ≡ clear) × (w ≡ fault n place)
-  without-clear clear w place h e = (refl, e)
-  without-clear (fault number at) w place h e = absurd (h (cc))
-
   pub without-unless : (b : Bool) (number place : ℕ) → (number ≡ n → ⊥) → Without n (unless b number place)
   without-unless true number place h = tt
   without-unless false number place h = h
@@ -117,3 +128,15 @@ module _ (n : ℕ) where
   unfolding firstOf
   without-first check zero h = tt
   without-first check (suc m) h = without-then (firstOf check m) (check m) (without-first check m h) (h m)
+
+  -- a fault that check k alone can give: those before it are clear, and k gives it
+  pub first-own : (check : ℕ → Verdict) (m k place : ℕ) → k < m → ((j : ℕ) → (j ≡ k → ⊥) → Without n (check j))
+      → (firstOf check m ≡ fault n place) ↔ ((firstOf check k ≡ clear) × (check k ≡ fault n place))
+  first-own check m k place u own = (
+    λ e. let f = first-fault check m n place e in go f (ℕ-discrete (f .at) k),
+    λ w. fault-first check m n place (record { at = k; below = u; before = first-clear check k (w .0); gives = w .1 }),
+  )
+    where
+      go : (f : FirstFault check m n place) → Dec (f .at ≡ k) → (firstOf check k ≡ clear) × (check k ≡ fault n place)
+      go f (yes same) = (clear-first check k (λ j v. f .before j (omega arith)), ap check (sym same) ∙ f .gives)
+      go f (no other) = absurd (without-fault (check (f .at)) place (own (f .at) other) (f .gives))

@@ -19,18 +19,33 @@ use Rattle.tariff.specs.declared.Found.{Found}
 use Rattle.tariff.specs.Units.{centsOf}
 use Rattle.tariff.specs.Sheet.{endOf, priceOf, beginOf, curveKeeps}
 use Rattle.tariff.specs.Curve.{known, quote, change, integral}
-use Rattle.tariff.specs.Reply.{Reply, paid, refused, DERATE, REACH, ROOM, Verdict, told, shown, clear, fault}
+use Rattle.tariff.specs.Reply.{Reply, paid, refused, FORM, RANGE, ORDER, CURVE, SECONDS, DERATE, REACH, ROOM, Verdict, told, shown, clear, fault}
 use Rattle.tariff.specs.Eligible.{lags}
 use Rattle.tariff.specs.Derate.{ofFive, redTot, potRed, floorOf, remainder, isBefore, share}
-use Rattle.tariff.specs.Hour.{interval, gives, outcomeAt, contribution, reply, rowAfter, form, range, order, curves, secondsSum, intervals}
-use Rattle.tariff.specs.Demand.{MustPrice, priceIn, FirstUnpriced, FirstExceeded, Alike, NoFaultTo4, NoFaultTo5, Passes, Extends}
+use Rattle.tariff.specs.Hour.{interval, gives, outcomeAt, contribution, reply, rowAfter, form, range, order, intervals}
+use Rattle.tariff.specs.Demand.{
+  MustPrice,
+  priceIn,
+  FirstUnpriced,
+  FirstExceeded,
+  UnpricedBeforeDerate,
+  ExceededBeforeReach,
+  FirstOutOfRange,
+  FirstCurveBroken,
+  SaysAnotherHour,
+  Alike,
+  NoFaultTo4,
+  NoFaultTo5,
+  Passes,
+  Extends,
+}
 use Rattle.tariff.proofs.Payments.{lagging-nothing, excluded-nothing, excluded-pays, paid-when, paid-once}
 use Rattle.tariff.proofs.Curves.{integral-turned}
 use Rattle.tariff.proofs.Ranks.{before-when}
 use Rattle.tariff.proofs.Shares.{share-one, served-first, shares-sum, share-bound}
-use Rattle.tariff.proofs.Ordered.{form-first, range-second, order-third, curve-fourth, seconds-fifth, room-last}
+use Rattle.tariff.proofs.GivenWhen.{form-when, range-when, order-when, curve-when, seconds-when, room-when}
 use Rattle.tariff.proofs.Replies.{needed-same, extended-same}
-use Rattle.tariff.proofs.ByInterval.{reach-when, derate-when}
+use Rattle.tariff.proofs.ByInterval.{reach-when, derate-when, reach-some, derate-some}
 use Rattle.tariff.proofs.Steps.{more-steps, priced-iff, step-price}
 use Rattle.tariff.proofs.Rows.{row-paid, row-refused}
 use Rattle.tariff.proofs.Answers.{answer-one, finding-one}
@@ -54,6 +69,13 @@ pub reach-exactly-when-unpriced :
     (h : Hour) (isExcluded : Bool) (expected : Expected) (room i : ℕ)
     → (reply h isExcluded expected room ≡ refused REACH (i + 1)) ↔ (NoFaultTo5 h expected × FirstUnpriced h isExcluded i)
 reach-exactly-when-unpriced = reach-when
+
+-- So an hour is refused for reach exactly when no check from 1 to 5 refuses it, a kilowatt that some interval must price has no price,
+-- and no derate refusal falls in that interval or before it.
+pub refused-for-reach-exactly-when-some-kilowatt-is-unpriced :
+    (h : Hour) (isExcluded : Bool) (expected : Expected) (room : ℕ)
+    → ((place : ℕ) × (reply h isExcluded expected room ≡ refused REACH place)) ↔ (NoFaultTo5 h expected × UnpricedBeforeDerate h isExcluded)
+refused-for-reach-exactly-when-some-kilowatt-is-unpriced = reach-some
 
 -- Adding curve to a paid hour never moves a cent, where the longer curves break no rule of checks 1 to 4: with every price that its
 -- curves had, and perhaps more, it pays the same and leaves the same row.
@@ -111,45 +133,38 @@ pub rounded-once :
     → (sum ≡ sumTo (contribution h isExcluded) (h .n)) × (cents ≡ centsOf (sumTo (contribution h isExcluded) (h .n)))
 rounded-once = paid-once
 
--- ---- the checks, in their order over the whole block
+-- ---- the checks, in their order over the whole block: each exactly when none before it refuses, whatever a later one would find
 
--- Each check is the reply where none before it refuses, whatever a later one would find: FORM, RANGE, ORDER, CURVE, SECONDS.
+-- FORM of a record: a curve has more than 12 steps, at its line, or a block more than 30 intervals, at line 34.
 pub form-comes-first :
-    (h : Hour) (isExcluded : Bool) (expected : Expected) (room number place : ℕ)
-    → form h ≡ fault number place
-    → reply h isExcluded expected room ≡ refused number place
-form-comes-first = form-first
+    (h : Hour) (isExcluded : Bool) (expected : Expected) (room line : ℕ)
+    → (reply h isExcluded expected room ≡ refused FORM line) ↔ (form h ≡ fault FORM line)
+form-comes-first = form-when
 
-pub range-comes-second :
-    (h : Hour) (isExcluded : Bool) (expected : Expected) (room number place : ℕ)
-    → form h ≡ clear
-    → range h ≡ fault number place
-    → reply h isExcluded expected room ≡ refused number place
-range-comes-second = range-second
+-- RANGE is given exactly when a number is outside its range, at the first such line.
+pub range-exactly-when-outside :
+    (h : Hour) (isExcluded : Bool) (expected : Expected) (room line : ℕ)
+    → (reply h isExcluded expected room ≡ refused RANGE line) ↔ ((form h ≡ clear) × FirstOutOfRange h line)
+range-exactly-when-outside = range-when
 
-pub order-comes-third :
-    (h : Hour) (isExcluded : Bool) (expected : Expected) (room number place : ℕ)
-    → form h ≡ clear
-    → range h ≡ clear
-    → order h expected ≡ fault number place
-    → reply h isExcluded expected room ≡ refused number place
-order-comes-third = order-third
+-- ORDER is given exactly when an hour is expected and the block says another, at 1.
+pub order-exactly-when-another-hour :
+    (h : Hour) (isExcluded : Bool) (expected : Expected) (room place : ℕ)
+    → (reply h isExcluded expected room ≡ refused ORDER place) ↔ ((form h ≡ clear) × (range h ≡ clear) × (place ≡ 1) × SaysAnotherHour h expected)
+order-exactly-when-another-hour = order-when
 
-pub curve-comes-fourth :
-    (h : Hour) (isExcluded : Bool) (expected : Expected) (room number place : ℕ)
-    → form h ≡ clear
-    → range h ≡ clear
-    → order h expected ≡ clear
-    → curves h ≡ fault number place
-    → reply h isExcluded expected room ≡ refused number place
-curve-comes-fourth = curve-fourth
+-- CURVE is given exactly when a curve rule is broken, at line 2 or 3, the first.
+pub curve-exactly-when-broken :
+    (h : Hour) (isExcluded : Bool) (expected : Expected) (room line : ℕ)
+    → (reply h isExcluded expected room ≡ refused CURVE line) ↔ ((form h ≡ clear) × (range h ≡ clear) × (order h expected ≡ clear) × FirstCurveBroken h line)
+curve-exactly-when-broken = curve-when
 
-pub seconds-come-fifth :
-    (h : Hour) (isExcluded : Bool) (expected : Expected) (room number place : ℕ)
-    → NoFaultTo4 h expected
-    → secondsSum h ≡ fault number place
-    → reply h isExcluded expected room ≡ refused number place
-seconds-come-fifth = seconds-fifth
+-- SECONDS is given exactly when the seconds do not sum to 3600, at 0.
+pub seconds-exactly-when-not-3600 :
+    (h : Hour) (isExcluded : Bool) (expected : Expected) (room place : ℕ)
+    → (reply h isExcluded expected room ≡ refused SECONDS place)
+    ↔ (NoFaultTo4 h expected × (place ≡ 0) × (sumTo (λ i. interval h i .s .0) (h .n) ≡ pos 3600 → ⊥))
+seconds-exactly-when-not-3600 = seconds-when
 
 -- DERATE is given exactly when no check from 1 to 5 refuses and the reduction of an eligible interval exceeds the room for it: at the
 -- first such interval, and where no REACH stands before it. REACH has the like, above.
@@ -158,14 +173,19 @@ pub derate-exactly-when-exceeded :
     → (reply h isExcluded expected room ≡ refused DERATE (i + 1)) ↔ (NoFaultTo5 h expected × FirstExceeded h isExcluded i)
 derate-exactly-when-exceeded = derate-when
 
--- ROOM comes last: no other check refuses, and the lent row is shorter than the interval count.
-pub room-comes-last :
+-- So an hour is refused for derate exactly when no check from 1 to 5 refuses it, the reduction of some eligible interval exceeds the room
+-- for it, and no reach refusal falls before that interval.
+pub refused-for-derate-exactly-when-some-reduction-exceeds :
     (h : Hour) (isExcluded : Bool) (expected : Expected) (room : ℕ)
-    → NoFaultTo5 h expected
-    → intervals h isExcluded ≡ clear
-    → room < h .n
-    → reply h isExcluded expected room ≡ refused ROOM 0
-room-comes-last = room-last
+    → ((place : ℕ) × (reply h isExcluded expected room ≡ refused DERATE place)) ↔ (NoFaultTo5 h expected × ExceededBeforeReach h isExcluded)
+refused-for-derate-exactly-when-some-reduction-exceeds = derate-some
+
+-- ROOM is given exactly when no other check refuses and the lent row is shorter than the interval count, at 0.
+pub room-exactly-when-short :
+    (h : Hour) (isExcluded : Bool) (expected : Expected) (room place : ℕ)
+    → (reply h isExcluded expected room ≡ refused ROOM place)
+    ↔ (NoFaultTo5 h expected × (intervals h isExcluded ≡ clear) × (place ≡ 0) × (room < h .n))
+room-exactly-when-short = room-when
 
 -- ---- the lent row
 

@@ -1,8 +1,10 @@
 -- What is proved of the definitions: `Demands` states it, the others hold the laws that it cites and those that the engine needs.
 pub mod Tests
 pub mod Checks
-pub mod Ordered
 pub mod Numbers
+pub mod Ordered
+pub mod FirstLines
+pub mod GivenWhen
 pub mod Ranges
 pub mod Curves
 pub mod Scan
@@ -17,6 +19,7 @@ pub mod Payments
 pub mod ByInterval
 pub mod Rows
 pub mod Answers
+pub mod Places
 pub mod Steps
 pub mod ImportRanges
 pub mod ImportGrains

@@ -1,8 +1,7 @@
 -- Each check gives no number but its own.
 use mathlib.Core.Path.{_≡_}
 use mathlib.Core.Bool.{Bool, _&&_}
-use Prim.Native.Nat.{ℕ, _+_, _<_}
-use native.Mathlib.Omega.{arith}
+use Prim.Native.Nat.{ℕ, _+_}
 use lib.Dec.{leb}
 use lib.IntN.{pos}
 use Rattle.exact.specs.Whole.{eqZ, sumTo}
@@ -11,7 +10,7 @@ use Rattle.tariff.specs.declared.Expected.{Expected}
 use Rattle.tariff.specs.declared.Expected.the-variants.{Any, Says}
 use Rattle.tariff.specs.Sheet.{isHour, aheadInRange, curveInRange, intervalInRange, curveKeeps}
 use Rattle.tariff.specs.Reply.{FORM, RANGE, ORDER, CURVE, SECONDS, DERATE, REACH, Verdict, unless, _then_, firstOf}
-use Rattle.tariff.specs.Hour.{interval, form, range, order, curves, secondsSum, Outcome, gives, derated, unreached, outcomeAt, faultAt, intervals, blockFault}
+use Rattle.tariff.specs.Hour.{interval, form, range, order, curves, secondsSum, Outcome, gives, derated, unreached, outcomeAt, faultAt, intervals}
 use Rattle.tariff.proofs.Checks.{Without, without-unless, without-then, without-first}
 
 module _ (n : ℕ) where
@@ -27,7 +26,7 @@ module _ (n : ℕ) where
       (without-then n (unless c number r) w (without-unless n c number r h) e))
 
   module _ (h : Hour) where
-    form-without : (FORM ≡ n → ⊥) → Without n (form h)
+    pub form-without : (FORM ≡ n → ⊥) → Without n (form h)
     unfolding form
     form-without e =
         without-then n (unless (leb (h .da .n) 12) FORM 2) (unless (leb (h .rt .n) 12) FORM 3 then unless (leb (h .n) 30) FORM 34)
@@ -65,15 +64,10 @@ module _ (n : ℕ) where
         at i derated = d
         at i unreached = r
 
-    -- checks 2 to 5, and 1 to 5
+    -- checks 2 to 5
     pub later-without : (expected : Expected) → (RANGE ≡ n → ⊥) → (ORDER ≡ n → ⊥) → (CURVE ≡ n → ⊥) → (SECONDS ≡ n → ⊥)
         → Without n (range h then order h expected then curves h then secondsSum h)
     later-without expected r o c s =
         without-then n (range h) (order h expected then curves h then secondsSum h) (range-without r)
         (without-then n (order h expected) (curves h then secondsSum h) (order-without expected o)
         (without-then n (curves h) (secondsSum h) (curves-without c) (seconds-without s)))
-
-    pub block-without : (expected : Expected) → SECONDS < n → Without n (blockFault h expected)
-    block-without expected u =
-        without-then n (form h) (range h then order h expected then curves h then secondsSum h) (form-without (λ e. omega arith))
-        (later-without expected (λ e. omega arith) (λ e. omega arith) (λ e. omega arith) (λ e. omega arith))

@@ -1,58 +1,80 @@
--- The checks of an hour in their order: the reply is the first fault, whatever a later check would find.
-use mathlib.Core.Path.{_≡_, _∙_}
+-- The checks of an hour in their order: a number is the reply exactly when no check before its own refuses and its own gives it, whatever
+-- a later one would find.
+use mathlib.Core.Path.{_≡_, sym, _∙_, ap}
 use mathlib.Core.Bool.{Bool}
-use Prim.Native.Nat.{ℕ, _<_}
-use borrow.Author.Tests.{lt-leb}
-use lib.Dec.{leb}
+use mathlib.Core.List.{[], _∷_}
+use mathlib.Core.Logic.{_↔_}
+use Prim.Native.Nat.{ℕ, zero, suc, _<_, _≤_}
+use native.Mathlib.Omega.{arith}
+use lib.Dec.{leb, eqb}
+use lib.ListN.{getD}
+use Rattle.exact.specs.Choice.{if_then_else_}
 use Rattle.tariff.specs.declared.Hour.{Hour}
 use Rattle.tariff.specs.declared.Expected.{Expected}
 use Rattle.tariff.specs.Units.{centsOf}
-use Rattle.tariff.specs.Reply.{paid, refused, ROOM, clear, fault, unless, _then_, otherwise}
-use Rattle.tariff.specs.Hour.{form, range, order, curves, secondsSum, intervals, hourSum, blockFault, reply}
+use Rattle.tariff.specs.Reply.{paid, refused, DERATE, REACH, ROOM, Verdict, clear, fault, unless, otherwise, firstOf}
+use Rattle.tariff.specs.Hour.{form, range, order, curves, secondsSum, intervals, hourSum, reply}
 use Rattle.tariff.specs.Demand.{NoFaultTo4, NoFaultTo5}
-use Rattle.tariff.proofs.Checks.{then-clear}
+use Rattle.tariff.proofs.Checks.{then-assoc, otherwise-refused, first-clear, Without, without-unless, first-own}
+use Rattle.tariff.proofs.Numbers.{form-without, range-without, order-without, curves-without, seconds-without, intervals-without}
+
+-- the turn of a number's check: 7 goes with 6, interval by interval
+abbrev pub turnOf : ℕ → ℕ
+turnOf number = if eqb number REACH then DERATE else number
 
 module _ (h : Hour) (isExcluded : Bool) (expected : Expected) (room : ℕ) where
-  -- ---- checks 1 to 5
+  -- what is found in each turn, from 1
+  abbrev pub found : ℕ → Verdict
+  found k =
+      getD
+      (clear ∷ form h ∷ range h ∷ order h expected ∷ curves h ∷ secondsSum h ∷ intervals h isExcluded ∷ clear ∷ unless (leb (h .n) room) ROOM 0 ∷ [])
+      k
+      clear
 
-  module _ (number place : ℕ) where
-    pub form-first : form h ≡ fault number place → reply h isExcluded expected room ≡ refused number place
-    unfolding reply
-    form-first e = rw e
+  pub reply-first : reply h isExcluded expected room ≡ otherwise (firstOf found 9) (paid (hourSum h isExcluded) (centsOf (hourSum h isExcluded)))
+  unfolding reply firstOf
+  reply-first = simp then-assoc
 
-    pub range-second : form h ≡ clear → range h ≡ fault number place → reply h isExcluded expected room ≡ refused number place
-    unfolding reply
-    range-second f e = rw (f, e)
+  -- no turn gives another's number
+  own : (number k : ℕ) → (k ≡ turnOf number → ⊥) → Without number (found k)
+  own n zero other = tt
+  own n (suc zero) other = form-without n h (λ e. other (ap turnOf e))
+  own n (suc (suc zero)) other = range-without n h (λ e. other (ap turnOf e))
+  own n (suc (suc (suc zero))) other = order-without n h expected (λ e. other (ap turnOf e))
+  own n (suc (suc (suc (suc zero)))) other = curves-without n h (λ e. other (ap turnOf e))
+  own n (suc (suc (suc (suc (suc zero))))) other = seconds-without n h (λ e. other (ap turnOf e))
+  own n (suc (suc (suc (suc (suc (suc zero)))))) other = intervals-without n h isExcluded (λ e. other (ap turnOf e)) (λ e. other (ap turnOf e))
+  own n (suc (suc (suc (suc (suc (suc (suc zero))))))) other = tt
+  own n (suc (suc (suc (suc (suc (suc (suc (suc zero)))))))) other = without-unless n (leb (h .n) room) ROOM 0 (λ e. other (ap turnOf e))
+  own n (suc (suc (suc (suc (suc (suc (suc (suc (suc k))))))))) other = tt
 
-    pub order-third : form h ≡ clear → range h ≡ clear → order h expected ≡ fault number place
-        → reply h isExcluded expected room ≡ refused number place
-    unfolding reply
-    order-third f r e = rw (f, r, e)
+  pub given-when : (number place : ℕ) → turnOf number < 9
+      → (reply h isExcluded expected room ≡ refused number place)
+      ↔ ((firstOf found (turnOf number) ≡ clear) × (found (turnOf number) ≡ fault number place))
+  given-when number place u =
+      let it = first-own number found 9 (turnOf number) place u (own number) in (
+        λ e. it .0 (otherwise-refused (firstOf found 9) _ _ number place (sym reply-first ∙ e)),
+        λ w. reply-first ∙ rw (it .1 w),
+      )
 
-    pub curve-fourth : form h ≡ clear → range h ≡ clear → order h expected ≡ clear → curves h ≡ fault number place
-        → reply h isExcluded expected room ≡ refused number place
-    unfolding reply
-    curve-fourth f r o e = rw (f, r, o, e)
+  -- ---- the turns up to k find nothing
 
-    pub seconds-fifth : NoFaultTo4 h expected → secondsSum h ≡ fault number place → reply h isExcluded expected room ≡ refused number place
-    unfolding reply
-    seconds-fifth f e = rw (f .form, f .range, f .order, f .curves, e)
+  pub clear-to4 : (k : ℕ) → 5 ≤ k → firstOf found k ≡ clear → NoFaultTo4 h expected
+  clear-to4 k u e =
+      record {
+        form = first-clear found k e 1 (omega arith);
+        range = first-clear found k e 2 (omega arith);
+        order = first-clear found k e 3 (omega arith);
+        curves = first-clear found k e 4 (omega arith);
+      }
 
-  pub clear-to5 : blockFault h expected ≡ clear → NoFaultTo5 h expected
-  clear-to5 e =
-      let one = then-clear (form h) _ e in
-      let two = then-clear (range h) _ (one .1) in
-      let three = then-clear (order h expected) _ (two .1) in
-      let four = then-clear (curves h) _ (three .1) in
-      record { to4 = record { form = one .0; range = two .0; order = three .0; curves = four .0 }; seconds = four .1 }
+  pub clear-to5 : (k : ℕ) → 6 ≤ k → firstOf found k ≡ clear → NoFaultTo5 h expected
+  clear-to5 k u e = record { to4 = clear-to4 k (omega arith) e; seconds = first-clear found k e 5 (omega arith) }
 
-  -- ---- checks 6 to 8
+  pub to4-clear : NoFaultTo4 h expected → firstOf found 5 ≡ clear
+  unfolding firstOf
+  to4-clear f = rw (f .form, f .range, f .order, f .curves)
 
-  pub reply-past : NoFaultTo5 h expected
-      → reply h isExcluded expected room
-      ≡ otherwise (intervals h isExcluded then unless (leb (h .n) room) ROOM 0) (paid (hourSum h isExcluded) (centsOf (hourSum h isExcluded)))
-  unfolding reply
-  reply-past f = rw (f .to4 .form, f .to4 .range, f .to4 .order, f .to4 .curves, f .seconds)
-
-  pub room-last : NoFaultTo5 h expected → intervals h isExcluded ≡ clear → room < h .n → reply h isExcluded expected room ≡ refused ROOM 0
-  room-last f e u = reply-past f ∙ rw (e, lt-leb (h .n) room u)
+  pub to5-clear : NoFaultTo5 h expected → firstOf found 6 ≡ clear
+  unfolding firstOf
+  to5-clear f = rw (to4-clear (f .to4), f .seconds)

@@ -14,33 +14,35 @@ use Rattle.tariff.specs.declared.Curve.{Curve}
 use Rattle.tariff.specs.declared.Hour.{Hour}
 use Rattle.tariff.specs.declared.Expected.{Expected}
 use Rattle.tariff.specs.Curve.{Amount, known, none, quote}
-use Rattle.tariff.specs.Reply.{Reply, paid, refused, ROOM, clear}
+use Rattle.tariff.specs.Reply.{Reply, paid, refused, DERATE, ROOM, clear, firstOf}
 use Rattle.tariff.specs.Units.{centsOf}
 use Rattle.tariff.specs.Contributions.{isLower}
 use Rattle.tariff.specs.Derate.{reduced}
-use Rattle.tariff.specs.Hour.{interval, secondsSum, outcomeAt, unreached, faultAt, intervals, amount, contribution, hourSum, blockFault, reply, rowFor, rowAfter}
+use Rattle.tariff.specs.Hour.{interval, secondsSum, outcomeAt, unreached, faultAt, intervals, amount, contribution, hourSum, reply, rowFor, rowAfter}
 use Rattle.tariff.specs.Demand.{MustPrice, priceIn, Unpriced, Alike, NoFaultTo4, Passes, Extends}
-use Rattle.tariff.proofs.Checks.{then-clear, unless-clear, otherwise-paid, first-same, first-clear}
-use Rattle.tariff.proofs.Ordered.{clear-to5, reply-past}
+use Rattle.tariff.proofs.Checks.{unless-clear, otherwise-paid, first-same, first-clear}
+use Rattle.tariff.proofs.Ordered.{found, reply-first, clear-to5}
 use Rattle.tariff.proofs.Needed.{withCurves, outcome-same, unpriced-unreached}
 
 -- ---- an hour is paid exactly when it passes every check
 
 module _ (h : Hour) (isExcluded : Bool) (expected : Expected) (room : ℕ) where
   pub paid-passes : (sum cents : ℤ) → reply h isExcluded expected room ≡ paid sum cents → Passes h isExcluded expected room
-  unfolding reply
   paid-passes sum cents e =
-      let all = then-clear (blockFault h expected) _ (otherwise-paid _ _ sum cents e) in
-      let last = then-clear (intervals h isExcluded) _ (all .1) in
+      let all = otherwise-paid (firstOf (found h isExcluded expected room) 9) _ sum cents (sym (reply-first h isExcluded expected room) ∙ e) in
+      let past = first-clear (found h isExcluded expected room) 9 all in
       record {
-        to5 = clear-to5 h isExcluded expected room (all .0);
-        intervals = last .0;
-        fits = leb-true (h .n) room (unless-clear (leb (h .n) room) ROOM 0 (last .1));
+        to5 = clear-to5 h isExcluded expected room 9 (omega arith) all;
+        intervals = past DERATE (omega arith);
+        fits = leb-true (h .n) room (unless-clear (leb (h .n) room) ROOM 0 (past ROOM (omega arith)));
       }
 
   pub passes-paid : Passes h isExcluded expected room
       → reply h isExcluded expected room ≡ paid (hourSum h isExcluded) (centsOf (hourSum h isExcluded))
-  passes-paid p = reply-past h isExcluded expected room (p .to5) ∙ rw (p .intervals, le-leb (h .n) room (p .fits))
+  unfolding reply
+  passes-paid p =
+      let to4 = p .to5 .to4 in
+      rw (to4 .form, to4 .range, to4 .order, to4 .curves, p .to5 .seconds, p .intervals, le-leb (h .n) room (p .fits))
 
 -- ---- hours that give the same in each interval
 

@@ -1,7 +1,7 @@
--- The words of demand 3: which kilowatts an eligible interval must price, and what two hours have in common.
+-- The words of the demands: which kilowatts an eligible interval must price, when each check refuses, and what two hours have in common.
 use mathlib.Core.Path.{_≡_}
-use mathlib.Core.Bool.{Bool, true, false}
-use Prim.Native.Nat.{ℕ, _<_, _≤_}
+use mathlib.Core.Bool.{Bool, true, false, _&&_}
+use Prim.Native.Nat.{ℕ, zero, suc, _+_, _<_, _≤_}
 use lib.IntN.{ℤ}
 use lib.Signed.{_≤ℤ_, _<ℤ_}
 use Rattle.exact.specs.Choice.{if_then_else_}
@@ -11,6 +11,8 @@ use Rattle.tariff.specs.declared.DayAhead.{DayAhead}
 use Rattle.tariff.specs.declared.Interval.{Interval}
 use Rattle.tariff.specs.declared.Hour.{Hour}
 use Rattle.tariff.specs.declared.Expected.{Expected}
+use Rattle.tariff.specs.declared.Expected.the-variants.{Says}
+use Rattle.tariff.specs.Sheet.{isHour, aheadInRange, curveInRange, intervalInRange, curveKeeps}
 use Rattle.tariff.specs.Curve.{Amount, known, none, quote}
 use Rattle.tariff.specs.Reply.{clear}
 use Rattle.tariff.specs.Eligible.{lags}
@@ -67,14 +69,59 @@ pub record FirstExceeded (h : Hour) (isExcluded : Bool) (i : ℕ) : Type 0 where
   pub first : (j : ℕ) → j < i → DerateRefused h isExcluded j → ⊥
   pub noReachBefore : (j : ℕ) → j < i → Unpriced h isExcluded j → ⊥
 
--- two hours alike in all but their curves
-pub record Alike (h g : Hour) : Type 0 where
-  pub hour : h .hour ≡ g .hour
-  pub ahead : h .ahead ≡ g .ahead
-  pub n : h .n ≡ g .n
-  pub iv : h .iv ≡ g .iv
+-- a kilowatt that some interval must price has no price, and no derate refusal falls in that interval or before it
+pub record UnpricedBeforeDerate (h : Hour) (isExcluded : Bool) : Type 0 where
+  pub at : ℕ
+  pub here : Unpriced h isExcluded at
+  pub noDerateBefore : (j : ℕ) → j ≤ at → DerateRefused h isExcluded j → ⊥
 
--- no fault 1 to 4; and none 1 to 5
+-- some interval's reduction exceeds the room for it, and no reach refusal falls before it
+pub record ExceededBeforeReach (h : Hour) (isExcluded : Bool) : Type 0 where
+  pub at : ℕ
+  pub here : DerateRefused h isExcluded at
+  pub noReachBefore : (j : ℕ) → j < at → Unpriced h isExcluded j → ⊥
+
+-- ---- the lines of a block: 1 has the hour and the day-ahead schedules, 2 and 3 the two curves, i + 4 interval i. There is no line 0
+
+-- a line's numbers are in their ranges
+abbrev pub lineInRange : Hour → ℕ → Bool
+lineInRange h zero = true
+lineInRange h (suc zero) = isHour (h .hour) && aheadInRange (h .ahead)
+lineInRange h (suc (suc zero)) = curveInRange (h .da)
+lineInRange h (suc (suc (suc zero))) = curveInRange (h .rt)
+lineInRange h (suc (suc (suc (suc i)))) = intervalInRange (interval h i)
+
+-- a line breaks no rule of a curve
+abbrev pub lineKeeps : Hour → ℕ → Bool
+lineKeeps h zero = true
+lineKeeps h (suc zero) = true
+lineKeeps h (suc (suc zero)) = curveKeeps (h .da)
+lineKeeps h (suc (suc (suc zero))) = curveKeeps (h .rt)
+lineKeeps h (suc (suc (suc (suc i)))) = true
+
+-- of the lines 1 to `last`, `line` is the first that fails the test
+pub record FirstLine (test : ℕ → Bool) (last line : ℕ) : Type 0 where
+  pub counted : line ≤ last
+  pub fails : test line ≡ false
+  pub first : (j : ℕ) → j < line → test j ≡ true
+
+-- `line` is the first with a number outside its range: a block has three lines and one for each interval
+abbrev pub FirstOutOfRange : Hour → ℕ → Type 0
+FirstOutOfRange h = FirstLine (lineInRange h) (h .n + 3)
+
+-- `line`, 2 or 3, is the first whose curve breaks a rule
+abbrev pub FirstCurveBroken : Hour → ℕ → Type 0
+FirstCurveBroken h = FirstLine (lineKeeps h) 3
+
+-- an hour is expected, and the block says another
+pub record SaysAnotherHour (h : Hour) (expected : Expected) : Type 0 where
+  pub hour : ℤ
+  pub asked : expected ≡ Says hour
+  pub other : h .hour ≡ hour → ⊥
+
+-- ---- checks that find no fault
+
+-- none from 1 to 4; and none from 1 to 5
 pub record NoFaultTo4 (h : Hour) (expected : Expected) : Type 0 where
   pub form : form h ≡ clear
   pub range : range h ≡ clear
@@ -90,6 +137,15 @@ pub record Passes (h : Hour) (isExcluded : Bool) (expected : Expected) (room : �
   pub to5 : NoFaultTo5 h expected
   pub intervals : intervals h isExcluded ≡ clear
   pub fits : h .n ≤ room
+
+-- ---- two hours, and two curves
+
+-- two hours alike in all but their curves
+pub record Alike (h g : Hour) : Type 0 where
+  pub hour : h .hour ≡ g .hour
+  pub ahead : h .ahead ≡ g .ahead
+  pub n : h .n ≡ g .n
+  pub iv : h .iv ≡ g .iv
 
 -- d has every price that c has, and perhaps more
 pub record Extends (c d : Curve) : Type 0 where

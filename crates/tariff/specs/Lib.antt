@@ -8,6 +8,7 @@ pub mod Derate
 pub mod Contributions
 pub mod Hour
 pub mod Demand
+pub mod Total
 pub mod Import
 pub mod ImportDemand
 pub mod ImportExample

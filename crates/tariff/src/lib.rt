@@ -147,6 +147,18 @@ pub enum Answer {
     Refused(Check),
 }
 
+// The answer of a block place of a day: a struct, since an array of enums cannot be a field.
+pub struct Place {
+    pub answer: Answer,
+}
+
+// The sum of a day's paid cents. It is withheld where an hour was refused or bytes follow the last block, so that a refused hour never
+// hides behind a total.
+pub enum Total {
+    Of(Cents),
+    Withheld,
+}
+
 // What one check finds.
 pub enum Found {
     Nothing,

@@ -2,7 +2,7 @@
 use mathlib.Core.List.{List}
 use Prim.Native.Nat.{ℕ, zero, suc, _+_, _-_, _*_, _<_}
 use lib.Dec.{ltb, eqb}
-use lib.IntN.{pos, negℤ}
+use lib.IntN.{ℤ, pos, negℤ}
 use Rattle.exact.specs.Choice.{if_then_else_}
 use Rattle.text.specs.declared.digits.Digits.{Digits}
 use Rattle.text.specs.declared.digits.Digits.the-variants.{Natural, NoDigits}
@@ -47,3 +47,7 @@ numberAt s at = if eqb (byteAt s at) 45 then negative (naturalAt s (at + 1)) els
 abbrev pub Small : Digits → Type 0
 Small (Natural v next) = v < 10000000
 Small NoDigits = Unit {0}
+
+-- a number that seven digits cannot say: it stands for one that is missing
+abbrev pub missing : ℤ
+missing = pos 10000000

@@ -1,6 +1,6 @@
 //! The calls of the static library. This is the one place with code that the
 //! compiler cannot check: the declarations have to say what
-//! `crates/culvertjig/src/lib.rt` says.
+//! `crates/culvertjig/src/lib.rt` says, and `tests/examples.sh` compares them.
 
 mod outside {
     extern "C" {

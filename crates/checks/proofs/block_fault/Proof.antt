@@ -7,17 +7,8 @@ use Rattle.tariff.proofs.Answers.{found-told}
 use Rattle.checks.proofs.block_fault.Statement.{statement}
 use Rattle.checks.proofs.block_fault.Tie as tie
 
-form-fault-requires : tie.Need-form-fault-requires
-form-fault-requires c κs = search needs
-
-enum-known-form : tie.Need-enum-known-form
-enum-known-form c = search needs
-
 returns : tie.Need-returns
 returns c = rw (found-told (c .before .before .before .form-fault .ensures) (c .before .form .given .1))
-
-enum-told : tie.Need-enum-told
-enum-told c = search needs
 
 formed : (c : tie.After-enum-told) → form (c .before .before .before .args .h) ≡ clear
 formed c = found-told (c .before .before .form-fault .ensures) (c .enum-told .given .1)
@@ -25,29 +16,14 @@ formed c = found-told (c .before .before .form-fault .ensures) (c .enum-told .gi
 range-fault-requires : tie.Need-range-fault-requires
 range-fault-requires c κs = formed c
 
-enum-known-range : tie.Need-enum-known-range
-enum-known-range c = search needs
-
 returns-2 : tie.Need-returns-2
 returns-2 c = rw (formed (c .before .before .before .before), found-told (c .before .before .before .range-fault .ensures) (c .before .range .given .1))
-
-enum-told-2 : tie.Need-enum-told-2
-enum-told-2 c = search needs
 
 ranged : (c : tie.After-enum-told2) → range (c .before .before .before .before .before .before .args .h) ≡ clear
 ranged c = found-told (c .before .before .range-fault .ensures) (c .enum-told2 .given .1)
 
-order-fault-requires : tie.Need-order-fault-requires
-order-fault-requires c κs = search needs
-
-enum-known-order : tie.Need-enum-known-order
-enum-known-order c = search needs
-
 returns-3 : tie.Need-returns-3
 returns-3 c = rw (formed (c .before .before .before .before .before .before .before), ranged (c .before .before .before .before), found-told (c .before .before .before .order-fault .ensures) (c .before .order .given .1))
-
-enum-told-3 : tie.Need-enum-told-3
-enum-told-3 c = search needs
 
 ordered : (c : tie.After-enum-told3) → order (c .before .before .before .before .before .before .before .before .before .args .h) (c .before .before .before .before .before .before .before .before .before .args .expected) ≡ clear
 ordered c = found-told (c .before .before .order-fault .ensures) (c .enum-told3 .given .1)
@@ -55,15 +31,9 @@ ordered c = found-told (c .before .before .order-fault .ensures) (c .enum-told3 
 curve-fault-requires : tie.Need-curve-fault-requires
 curve-fault-requires c κs = formed (c .before .before .before .before .before .before)
 
-enum-known-curve : tie.Need-enum-known-curve
-enum-known-curve c = search needs
-
 returns-4 : tie.Need-returns-4
 returns-4 c =
     rw (formed (c .before .before .before .before .before .before .before .before .before .before), ranged (c .before .before .before .before .before .before .before), ordered (c .before .before .before .before), found-told (c .before .before .before .curve-fault .ensures) (c .before .curve .given .1))
-
-enum-told-4 : tie.Need-enum-told-4
-enum-told-4 c = search needs
 
 curved : (c : tie.After-enum-told4) → curves (c .before .before .before .before .before .before .before .before .before .before .before .before .args .h) ≡ clear
 curved c = found-told (c .before .before .curve-fault .ensures) (c .enum-told4 .given .1)
@@ -78,21 +48,21 @@ pub block-fault-spec : {M : Type 1} → statement M
 block-fault-spec =
     tie.close
     (tie.spec
-    form-fault-requires
-    enum-known-form
+    (λ c κs. tt)
+    (λ c. search needs)
     returns
-    enum-told
+    (λ c. search needs)
     range-fault-requires
-    enum-known-range
+    (λ c. search needs)
     returns-2
-    enum-told-2
-    order-fault-requires
-    enum-known-order
+    (λ c. search needs)
+    (λ c κs. tt)
+    (λ c. search needs)
     returns-3
-    enum-told-3
+    (λ c. search needs)
     curve-fault-requires
-    enum-known-curve
+    (λ c. search needs)
     returns-4
-    enum-told-4
+    (λ c. search needs)
     seconds-fault-requires
     returns-5)

@@ -1,16 +1,8 @@
--- `settle` answers as the checks say, in their order, and writes the row only where the hour is paid.
-use mathlib.Core.Path.{ap}
+-- `settle` hands a refusal by checks 1 to 7 on; else what is paid out is the answer, and the row is left as it then is.
 use borrow.Author.Needs.{needs}
-use Rattle.tariff.specs.Reply.{shown}
-use Rattle.engine.proofs.Paid.{checks-refuse, room-refuses, pays}
+use Rattle.engine.proofs.Paid.{checks-refuse, pays}
 use Rattle.engine.proofs.settle.Statement.{statement}
 use Rattle.engine.proofs.settle.Tie as tie
-
-work-out-requires : tie.Need-work-out-requires
-work-out-requires c κs = search needs
-
-enum-known-found : tie.Need-enum-known-found
-enum-known-found c = search needs
 
 returns : tie.Need-returns
 returns c =
@@ -19,44 +11,23 @@ returns c =
     let a = checks-refuse (s .h) (s .excluded) (s .expected) (s .row .now) (w .result) (w .ensures) _ (c .before .found .given .1) in
     (a .told, a .left)
 
-enum-told : tie.Need-enum-told
-enum-told c = search needs
-
 returns-2 : tie.Need-returns-2
 returns-2 c =
-    let s = c .before .before .before .before .args in
-    let w = c .before .before .before .work-out in
-    let a = room-refuses (s .h) (s .excluded) (s .expected) (s .row .now) (w .result) (w .ensures) (c .before .enum-told .given .1) (c .if1 .taken) in
-    (a .told, a .left)
-
-copy-out-requires : tie.Need-copy-out-requires
-copy-out-requires c κs = (c .before .before .before .before .before .before .work-out .ensures .few (ap shown (c .before .before .before .before .enum-told .given .1)), c .before .before .before .if1 .left)
-
-cents-of-requires : tie.Need-cents-of-requires
-cents-of-requires c κs = search needs
-
-same-length : tie.Need-same-length
-same-length c = search needs
-
-returns-3 : tie.Need-returns-3
-returns-3 c =
-    let s = c .before .before .before .before .before .before .before .before .before .before .args in
-    let w = c .before .before .before .before .before .before .before .before .before .work-out in
-    let a =
-    pays (s .h) (s .excluded) (s .expected) (s .row .now) (w .result) (w .ensures) (c .before .before .before .before .before .before .before .enum-told .given .1) (c .before .before .before .before .before .before .if1 .left)
-    _ _ (c .cents-of .ensures) (c .before .before .copy-out .ensures) in
+    let clear = c .before .before .before .before in
+    let w = clear .before .before .work-out in
+    let s = clear .before .before .before .args in
+    let p = c .before .pay in
+    let a = pays (s .h) (s .excluded) (s .expected) (s .row .now) (w .result) (w .ensures) (clear .enum-told .given .1) _ _ (p .ensures .0) (p .ensures .1) in
     (a .told, a .left)
 
 pub settle-spec : {M : Type 1} → statement M
 settle-spec =
     tie.close
     (tie.spec
-    work-out-requires
-    enum-known-found
+    (λ c κs. tt)
+    (λ c. search needs)
     returns
-    enum-told
-    returns-2
-    copy-out-requires
-    cents-of-requires
-    same-length
-    returns-3)
+    (λ c. search needs)
+    (λ c κs. tt)
+    (λ c. search needs)
+    returns-2)

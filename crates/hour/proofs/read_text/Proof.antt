@@ -1,66 +1,56 @@
--- `read_text` meets its contract: no more bytes are read than the text has room for.
-use Prim.Native.Nat.{_≤_, _-_}
-use mathlib.Core.Path.{_≡_}
-use borrow.Author.Needs.{needs}
-use lib.ListN.{length, length-set}
+-- `read_text` meets its contract. The loop's invariant: no block has ended in front of the first n bytes, or with them.
+use mathlib.Core.Path.{_≡_, refl, sym, _∙_}
+use mathlib.Core.Bool.{false}
+use Prim.Native.Nat.{ℕ, _≤_, _-_}
 use native.Mathlib.Omega.{arith}
+use borrow.Author.Needs.{needs}
+use lib.ListN.{length}
 use Rattle.intake.proofs.Row.{counts}
+use Rattle.lines.specs.Line.{endsEmpty}
+use Rattle.lines.proofs.Whole.{ends-same, none-ends, none-ended}
 use Rattle.hour.proofs.read_text.Statement.{statement}
 use Rattle.hour.proofs.read_text.Tie as tie
 
 abbrev Inv-loop : tie.InvT-loop
-Inv-loop text₀ n₀ text n = (n ≤ length text) × (length text ≡ length text₀)
+Inv-loop text₀ n₀ text n =
+    (n ≤ length text) × (length text ≡ length text₀) × ((m : ℕ) → m ≤ n → endsEmpty text m ≡ false)
 
 abbrev μ-loop : tie.MeasureT-loop
 μ-loop text₀ n₀ text n = length text - n
 
 loop-holds : tie.Need-loop-holds Inv-loop μ-loop
-loop-holds c = search needs
-
-slice-aggregate-read : tie.Need-slice-aggregate-read Inv-loop μ-loop
-slice-aggregate-read c = search needs
-
-read-requires : tie.Need-read-requires Inv-loop μ-loop
-read-requires c κs = search needs
-
-same-length : tie.Need-same-length Inv-loop μ-loop
-same-length c = search needs
+loop-holds c = (omega arith, refl, λ m h. let none : m ≡ 0 = omega arith in rw none)
 
 returns : tie.Need-returns Inv-loop μ-loop
-returns c = counts _ _ (search needs)
-
-array-read-text : tie.Need-array-read-text Inv-loop μ-loop
-array-read-text c = search needs
-
-slice-write-text : tie.Need-slice-write-text Inv-loop μ-loop
-slice-write-text c = search needs
-
-add-n : tie.Need-add-n Inv-loop μ-loop
-add-n c = search needs
-
-is-whole-requires : tie.Need-is-whole-requires Inv-loop μ-loop
-is-whole-requires c κs = search needs
-
-same-length-2 : tie.Need-same-length-2 Inv-loop μ-loop
-same-length-2 c = search needs
+returns c =
+    let k = c .before .before .before in
+    let l = k .before .before .before .loop in
+    (counts _ _ (search needs), λ m h. ends-same _ _ (l .n) (k .read-on .ensures .1 .0) m (omega arith) ∙ l .inv .2 m (omega arith))
 
 returns-2 : tie.Need-returns-2 Inv-loop μ-loop
-returns-2 c = counts _ _ (let h = c .before .before .before .before .before .before .before .loop-test .taken in simp length-set (omega arith))
-
-loop-less : tie.Need-loop-less Inv-loop μ-loop
-loop-less c = let h = c .before .before .before .before .before .before .before .loop-test .taken in simp length-set (omega arith)
+returns-2 c =
+    let k = c .before .before .before .before .before .before in
+    let l = k .before .before .before .loop in
+    (counts _ _ (search needs), none-ends _ _ (l .n) (k .read-on .ensures .1 .0) _ (l .inv .2) (k .read-on .ensures .1 .1))
 
 loop-again : tie.Need-loop-again Inv-loop μ-loop
 loop-again c =
-    let h = c .before .before .before .before .before .before .before .loop-test .taken in
-    let e = c .before .before .before .before .before .before .before .before .loop .inv .1 in
-    (simp length-set (omega arith), simp length-set e)
-
-same-length-3 : tie.Need-same-length-3 Inv-loop μ-loop
-same-length-3 c = search needs
+    let k = c .before .before .before .before .before .before in
+    let l = k .before .before .before .loop in (
+      search needs,
+      search needs,
+      none-ended _ _ (l .n) (k .read-on .ensures .1 .0) _ (l .inv .2) (k .read-on .ensures .1 .1) (sym (c .before .is-whole .ensures) ∙ c .if2 .left),
+    )
 
 returns-3 : tie.Need-returns-3 Inv-loop μ-loop
-returns-3 c = counts _ _ (search needs)
+returns-3 c =
+    let l = c .before .before .loop in
+    (counts _ _ (search needs), λ m h. l .inv .2 m (omega arith))
+
+returns-4 : tie.Need-returns-4 Inv-loop μ-loop
+returns-4 c =
+    let l = c .before .before .before .before .loop in
+    (counts _ _ (search needs), λ m h. l .inv .2 m (omega arith))
 
 pub read-text-spec : {M : Type 1} → statement M
 read-text-spec =
@@ -69,17 +59,19 @@ read-text-spec =
     Inv-loop
     μ-loop
     loop-holds
-    slice-aggregate-read
-    read-requires
-    same-length
+    (λ c κs. search needs)
+    (λ c. search needs)
     returns
-    array-read-text
-    slice-write-text
-    add-n
-    is-whole-requires
-    same-length-2
+    (λ c. search needs)
+    (λ c κs. search needs)
+    (λ c. search needs)
     returns-2
-    loop-less
+    (λ c. search needs)
     loop-again
-    same-length-3
-    returns-3)
+    (λ c. search needs)
+    returns-3
+    (λ c. search needs)
+    (λ c. search needs)
+    (λ c κs. search needs)
+    (λ c. search needs)
+    returns-4)

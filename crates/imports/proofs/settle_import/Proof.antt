@@ -4,9 +4,9 @@ use native.Mathlib.Omega.{arith}
 use borrow.Author.Needs.{needs}
 use Rattle.tariff.specs.Reply.{clear}
 use Rattle.tariff.proofs.Answers.{found-told}
-use Rattle.lines.proofs.Fill.{held-is}
+use Rattle.exact.proofs.Held.{held-is}
 use Rattle.imports.specs.Import.{headFault}
-use Rattle.imports.proofs.Heads.{head-inside, head-refuses, head-passes}
+use Rattle.imports.proofs.Heads.{said-name, said-cts, said-next, head-inside, head-refuses, head-passes}
 use Rattle.imports.proofs.settle_import.Statement.{statement}
 use Rattle.imports.proofs.settle_import.Tie as tie
 
@@ -32,7 +32,7 @@ settle-blocks-requires : tie.Need-settle-blocks-requires
 settle-blocks-requires c κs =
     let k = c .before .before in
     let h = k .before .before in
-    (rw (h .read-head .ensures .next (sound k)) (head-inside (h .before .before .args .s .now)), omega arith)
+    (rw (said-next _ _ (h .read-head .ensures) (sound k)) (head-inside (h .before .before .args .s .now)), omega arith)
 
 returns-2 : tie.Need-returns-2
 returns-2 c =
@@ -41,7 +41,8 @@ returns-2 c =
     let e = h .read-head .ensures in
     let given = c .before .struct-told2 .given in
     head-passes 24 (h .before .before .args .s .now) _ _ _ _ (sound k)
-    (held-is _ _ (given .1 .0 .1) (e .name (sound k))) (held-is _ _ (given .1 .1 .0 .1) (e .cts (sound k))) (e .next (sound k)) (c .settle-blocks .ensures)
+    (held-is _ _ (given .1 .0 .1) (said-name _ _ e (sound k))) (held-is _ _ (given .1 .1 .0 .1) (said-cts _ _ e (sound k))) (said-next _ _ e (sound k))
+    (c .settle-blocks .ensures)
 
 pub settle-import-spec : {M : Type 1} → statement M
 settle-import-spec =

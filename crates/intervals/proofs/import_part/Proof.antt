@@ -9,18 +9,9 @@ use Rattle.tariff.proofs.ImportRanges.{import-clear-says}
 use Rattle.intervals.proofs.import_part.Statement.{statement}
 use Rattle.intervals.proofs.import_part.Tie as tie
 
-import-fault-requires : tie.Need-import-fault-requires
-import-fault-requires c κs = search needs
-
-enum-known-fault : tie.Need-enum-known-fault
-enum-known-fault c = search needs
-
 returns : tie.Need-returns
 unfolding importPart
 returns c = rw (found-told (c .before .before .before .import-fault .ensures) (c .before .fault .given .1))
-
-enum-told : tie.Need-enum-told
-enum-told c = search needs
 
 -- where the block has no fault
 sound : (c : tie.After-enum-told) → importFault (c .before .before .before .args .h) (c .before .before .before .args .k) ≡ clear
@@ -30,9 +21,6 @@ curtailed-sum-requires : tie.Need-curtailed-sum-requires
 curtailed-sum-requires c κs =
     let p = import-clear-says (c .before .before .before .args .h) (c .before .before .before .args .k) (sound c) in
     (p .0, p .1)
-
-gain-or-zero-requires : tie.Need-gain-or-zero-requires
-gain-or-zero-requires c κs = search needs
 
 returns-2 : tie.Need-returns-2
 unfolding importPart
@@ -44,10 +32,9 @@ pub import-part-spec : {M : Type 1} → statement M
 import-part-spec =
     tie.close
     (tie.spec
-    import-fault-requires
-    enum-known-fault
+    (λ c κs. tt) (λ c. search needs)
     returns
-    enum-told
+    (λ c. search needs)
     curtailed-sum-requires
-    gain-or-zero-requires
+    (λ c κs. tt)
     returns-2)

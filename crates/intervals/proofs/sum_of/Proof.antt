@@ -18,12 +18,6 @@ abbrev μ-loop : tie.MeasureT-loop
 loop-holds : tie.Need-loop-holds Inv-loop μ-loop
 loop-holds c = (omega arith, sym (sum-none (grainsAt (c .args .t1))))
 
-mul-g : tie.Need-mul-g Inv-loop μ-loop
-mul-g c = omega arith
-
-array-copy-out-g : tie.Need-array-copy-out-g Inv-loop μ-loop
-array-copy-out-g c = omega arith
-
 grains-plus-requires : tie.Need-grains-plus-requires Inv-loop μ-loop
 grains-plus-requires c κs =
     let A = c .before .before .before .args in
@@ -33,12 +27,6 @@ grains-plus-requires c κs =
       rw (L .inv .1) (within-more few (sum-within 100000000000000000 (grainsAt (A .t1)) (L .i) (λ k u. each k))),
       within-lit tt (each (L .i)),
     )
-
-add-i : tie.Need-add-i Inv-loop μ-loop
-add-i c = omega arith
-
-loop-less : tie.Need-loop-less Inv-loop μ-loop
-loop-less c = omega arith
 
 loop-again : tie.Need-loop-again Inv-loop μ-loop
 loop-again c =
@@ -59,10 +47,8 @@ sum-of-spec =
     Inv-loop
     μ-loop
     loop-holds
-    mul-g
-    array-copy-out-g
+    (λ c. omega arith) (λ c. omega arith)
     grains-plus-requires
-    add-i
-    loop-less
+    (λ c. omega arith) (λ c. omega arith)
     loop-again
     returns)

@@ -8,23 +8,11 @@ use Rattle.intervals.proofs.Works.{no-fault-says, refused-by-block, ref
 use Rattle.intervals.proofs.work_out.Statement.{statement}
 use Rattle.intervals.proofs.work_out.Tie as tie
 
-block-fault-requires : tie.Need-block-fault-requires
-block-fault-requires c κs = search needs
-
-enum-known-fault : tie.Need-enum-known-fault
-enum-known-fault c = search needs
-
-refused-by-requires : tie.Need-refused-by-requires
-refused-by-requires c κs = search needs
-
 returns : tie.Need-returns
 returns c =
     let s = c .before .before .before .before .before .args in
     refused-by-block (s .h) (s .excluded) (s .expected) (c .refused-by .result) _ (c .refused-by .ensures)
     (found-told (c .before .before .before .before .block-fault .ensures) (c .before .before .fault .given .1))
-
-enum-told : tie.Need-enum-told
-enum-told c = search needs
 
 -- where the block has no fault
 sound : (c : tie.After-enum-told) → blockFault (c .before .before .before .args .h) (c .before .before .before .args .expected) ≡ clear
@@ -35,21 +23,12 @@ walk-unless-requires c κs =
     let p = no-fault-says (c .before .before .before .args .h) (c .before .before .before .args .expected) (sound c) in
     (p .0, p .1)
 
-enum-known-found : tie.Need-enum-known-found
-enum-known-found c = search needs
-
-refused-by-requires-2 : tie.Need-refused-by-requires-2
-refused-by-requires-2 c κs = search needs
-
 returns-2 : tie.Need-returns-2
 returns-2 c =
     let e = c .before .before .before .before .before in
     let s = e .before .before .before .args in
     refused-by-walk (s .h) (s .excluded) (s .expected) (sound e) (c .refused-by2 .result) _ (c .refused-by2 .ensures)
     (found-told (c .before .before .before .before .walk-unless .ensures .first) (c .before .before .found .given .1))
-
-enum-told-2 : tie.Need-enum-told-2
-enum-told-2 c = search needs
 
 sum-of-requires : tie.Need-sum-of-requires
 sum-of-requires c κs =
@@ -67,15 +46,12 @@ pub work-out-spec : {M : Type 1} → statement M
 work-out-spec =
     tie.close
     (tie.spec
-    block-fault-requires
-    enum-known-fault
-    refused-by-requires
+    (λ c κs. tt) (λ c. search needs) (λ c κs. tt)
     returns
-    enum-told
+    (λ c. search needs)
     walk-unless-requires
-    enum-known-found
-    refused-by-requires-2
+    (λ c. search needs) (λ c κs. tt)
     returns-2
-    enum-told-2
+    (λ c. search needs)
     sum-of-requires
     returns-3)

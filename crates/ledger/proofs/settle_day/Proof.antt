@@ -8,7 +8,7 @@ use Rattle.tariff.specs.declared.Check.{Check}
 use Rattle.tariff.specs.Reply.{clear, fault, numberOf, placeOf, shown}
 use Rattle.header.specs.Header.{headerFault}
 use Rattle.ledger.specs.declared.Day.{Day}
-use Rattle.ledger.specs.Day.{toldTotal, toldAll}
+use Rattle.tariff.specs.Total.{toldTotal, toldAll}
 use Rattle.ledger.proofs.Days.{header-inside, all-refused, total-withheld, replies-are, total-is}
 use Rattle.ledger.proofs.settle_day.Statement.{statement}
 use Rattle.ledger.proofs.settle_day.Tie as tie
@@ -42,8 +42,8 @@ enum-told c = search needs
 excluded-hours-requires : tie.Need-excluded-hours-requires
 excluded-hours-requires c κs = search needs
 
-settle-blocks-requires : tie.Need-settle-blocks-requires
-settle-blocks-requires c κs =
+settle-hours-requires : tie.Need-settle-hours-requires
+settle-hours-requires c κs =
     let h = c .before .before .before .before in
     (header-inside 24 (h .before .before .args .sheet .now) (h .read-header .result .next) (h .read-header .ensures .1 .1), omega arith)
 
@@ -56,14 +56,14 @@ returns-2 c =
     let m = h .read-header .result .marks in
     let at = h .read-header .result .next in
     let w = x .excluded-hours .result in
-    let settled = c .before .settle-blocks .ensures in
+    let settled = c .before .settle-hours .ensures in
     let marks = h .read-header .ensures .1 .0 in
     let next = h .read-header .ensures .1 .1 in
     let says = x .excluded-hours .ensures in (
       h .read-header .ensures .0,
       (
-        replies-are 24 s read m at w marks next says (c .before .settle-blocks .result .hours) (settled .long) (settled .answers),
-        total-is 24 s read m at w marks next says (toldTotal (c .before .settle-blocks .result .total)) (settled .sum),
+        replies-are 24 s read m at w marks next says (c .before .settle-hours .result .hours) (settled .long) (settled .answers),
+        total-is 24 s read m at w marks next says (toldTotal (c .before .settle-hours .result .total)) (settled .sum),
       ),
     )
 
@@ -77,5 +77,5 @@ settle-day-spec =
     returns
     enum-told
     excluded-hours-requires
-    settle-blocks-requires
+    settle-hours-requires
     returns-2)

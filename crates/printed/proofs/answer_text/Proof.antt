@@ -4,8 +4,8 @@ use lib.IntN.{ℤ}
 use lib.ListN.{take}
 use Rattle.exact.proofs.Calls.{handed}
 use Rattle.tariff.specs.Reply.{told}
-use Rattle.printed.specs.Printed.{answerText}
-use Rattle.printed.proofs.Pages.{put-as}
+use Rattle.answers.specs.Answers.{answerText}
+use Rattle.page.proofs.Pages.{put-as}
 use Rattle.printed.proofs.Texts.{put-first}
 use borrow.Author.Needs.{needs}
 use Rattle.printed.proofs.answer_text.Statement.{statement}

@@ -1,7 +1,7 @@
 -- `hour_text` settles the block into a row of its own and writes the answer from the lent row's beginning on.
 use mathlib.Core.Path.{refl, _∙_}
 use Rattle.exact.proofs.Calls.{handed}
-use Rattle.printed.proofs.Pages.{put-as}
+use Rattle.page.proofs.Pages.{put-as}
 use Rattle.printed.proofs.Texts.{put-first, hour-text}
 use borrow.Author.Needs.{needs}
 use Rattle.printed.proofs.hour_text.Statement.{statement}

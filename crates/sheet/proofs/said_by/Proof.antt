@@ -1,24 +1,24 @@
 -- `said_by` meets its contract: zeros where a line is not as printed, and what the record holds otherwise.
 use mathlib.Core.Path.{refl}
-use Rattle.lines.proofs.Fill.{held-is}
-use Rattle.sheet.proofs.Blocks.{block-broken, block-is}
+use Rattle.exact.proofs.Held.{held-is}
+use Rattle.blocks.proofs.Blocks.{block-broken, block-is}
 use borrow.Author.Needs.{needs}
 use Rattle.sheet.proofs.said_by.Statement.{statement}
 use Rattle.sheet.proofs.said_by.Tie as tie
 
-hour-at-requires : tie.Need-hour-at-requires
-hour-at-requires c κs = search needs
+read-hour-requires : tie.Need-read-hour-requires
+read-hour-requires c κs = search needs
 
 returns : tie.Need-returns
 returns c =
-    let b = block-broken _ _ (c .before .hour-at .ensures) (c .if1 .taken) in
+    let b = block-broken _ _ (c .before .read-hour .ensures) (c .if1 .taken) in
     (rw b, rw b)
 
 returns-2 : tie.Need-returns-2
 returns-2 c =
     let k = c .before .before in
-    let b = block-is _ _ (k .before .hour-at .ensures) (k .if1 .left) in
+    let b = block-is _ _ (k .before .read-hour .ensures) (k .if1 .left) in
     (rw b (held-is _ _ (c .struct-told .given .0 .1) refl), rw b)
 
 pub said-by-spec : {M : Type 1} → statement M
-said-by-spec = tie.close (tie.spec hour-at-requires returns returns-2)
+said-by-spec = tie.close (tie.spec read-hour-requires returns returns-2)

@@ -5,7 +5,6 @@ use mathlib.Core.Logic.{⊎-elim}
 use Prim.Native.Nat.{ℕ, zero, suc, _+_, _-_, _<_, _≤_}
 use native.Mathlib.Numerals.{add-one}
 use native.Mathlib.Omega.{arith}
-use borrow.Author.Needs.{needs}
 use borrow.Author.Tests.{eq-eqb, ne-eqb}
 use lib.Signed.{leZ}
 use Rattle.tariff.specs.declared.Curve.{Curve}
@@ -48,24 +47,12 @@ Inv-loop n to at begin₀ j₀ begin j =
 abbrev μ-loop : tie.MeasureT-loop
 μ-loop n to at begin₀ j₀ begin j = n - j
 
-same-requires : tie.Need-same-requires Inv-loop μ-loop
-same-requires c κs = search needs
-
 returns : tie.Need-returns Inv-loop μ-loop
 unfolding curveKeeps
 returns c = rw (eq-eqb (c .before .before .args .c .n) 0 (c .before .if1 .taken)) (c .same .ensures)
 
 loop-holds : tie.Need-loop-holds Inv-loop μ-loop
 loop-holds c = (omega arith, refl, all-none _)
-
-mul-end : tie.Need-mul-end Inv-loop μ-loop
-mul-end c = omega arith
-
-array-copy-out-end : tie.Need-array-copy-out-end Inv-loop μ-loop
-array-copy-out-end c = omega arith
-
-below-requires : tie.Need-below-requires Inv-loop μ-loop
-below-requires c κs = search needs
 
 -- the call's answer, of the step
 rising : (c : tie.After-below Inv-loop μ-loop) → c .below .result ≡ rises (c .before .before .before .before .before .before .before .before .args .c) (c .before .before .before .loop .j)
@@ -77,24 +64,6 @@ returns-2 c =
     let l = c .before .before .before .before .loop in
     keeps-not curve (c .before .before .before .before .before .before .before .before .if1 .left) (l .j) (c .before .before .before .loop-test .taken) (rw (fails (rising (c .before)) (c .if2 .taken)))
 
-sub-price-at-most : tie.Need-sub-price-at-most Inv-loop μ-loop
-sub-price-at-most c = omega arith
-
-mul-price-at-most : tie.Need-mul-price-at-most Inv-loop μ-loop
-mul-price-at-most c = omega arith
-
-array-copy-out-price-at-most : tie.Need-array-copy-out-price-at-most Inv-loop μ-loop
-array-copy-out-price-at-most c = omega arith
-
-mul-price-at-most-2 : tie.Need-mul-price-at-most-2 Inv-loop μ-loop
-mul-price-at-most-2 c = omega arith
-
-array-copy-out-price-at-most-2 : tie.Need-array-copy-out-price-at-most-2 Inv-loop μ-loop
-array-copy-out-price-at-most-2 c = omega arith
-
-price-at-most-requires : tie.Need-price-at-most-requires Inv-loop μ-loop
-price-at-most-requires c κs = search needs
-
 returns-3 : tie.Need-returns-3 Inv-loop μ-loop
 returns-3 c =
     let curve = c .before .before .before .before .before .before .before .before .before .before .before .before .before .before .args .c in
@@ -102,12 +71,6 @@ returns-3 c =
     let l = two .before .before .before .before .loop in
     let fair = fails (c .before .price-at-most .ensures ∙ fair-later curve (l .j) (c .before .before .before .before .if3 .taken)) (c .if4 .taken) in
     keeps-not curve (c .before .before .before .before .before .before .before .before .before .before .before .before .before .if1 .left) (l .j) (two .before .before .before .loop-test .taken) (rw (passes (rising (two .before)) (two .if2 .left), fair))
-
-add-j : tie.Need-add-j Inv-loop μ-loop
-add-j c = omega arith
-
-loop-less : tie.Need-loop-less Inv-loop μ-loop
-loop-less c = omega arith
 
 loop-again : tie.Need-loop-again Inv-loop μ-loop
 loop-again c =
@@ -131,21 +94,21 @@ curve-keeps-spec =
     (tie.spec
     Inv-loop
     μ-loop
-    same-requires
+    (λ c κs. tt)
     returns
     loop-holds
-    mul-end
-    array-copy-out-end
-    below-requires
+    (λ c. omega arith)
+    (λ c. omega arith)
+    (λ c κs. tt)
     returns-2
-    sub-price-at-most
-    mul-price-at-most
-    array-copy-out-price-at-most
-    mul-price-at-most-2
-    array-copy-out-price-at-most-2
-    price-at-most-requires
+    (λ c. omega arith)
+    (λ c. omega arith)
+    (λ c. omega arith)
+    (λ c. omega arith)
+    (λ c. omega arith)
+    (λ c κs. tt)
     returns-3
-    add-j
-    loop-less
+    (λ c. omega arith)
+    (λ c. omega arith)
     loop-again
     returns-4)

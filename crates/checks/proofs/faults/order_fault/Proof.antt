@@ -7,15 +7,6 @@ use Rattle.exact.proofs.Calls.{handed}
 use Rattle.checks.proofs.faults.order_fault.Statement.{statement}
 use Rattle.checks.proofs.faults.order_fault.Tie as tie
 
-enum-told : tie.Need-enum-told
-enum-told c = search needs
-
-enum-known-expected : tie.Need-enum-known-expected
-enum-known-expected c = search needs
-
-same-hour-requires : tie.Need-same-hour-requires
-same-hour-requires c κs = search needs
-
 returns : tie.Need-returns
 unfolding order
 returns c = rw (c .enum-told .given .1)
@@ -38,4 +29,4 @@ returns-3 c = rw (c .before .before .before .before .expected .given .1, sym (an
 pub order-fault-spec : {M : Type 1} → statement M
 order-fault-spec =
     tie.close
-    (tie.spec enum-told enum-known-expected same-hour-requires returns returns-2 returns-3)
+    (tie.spec (λ c. search needs) (λ c. search needs) (λ c κs. tt) returns returns-2 returns-3)

@@ -3,7 +3,6 @@ use mathlib.Core.Path.{_≡_, sym, _∙_, ap}
 use mathlib.Core.Bool.{Bool, true, _&&_}
 use Prim.Native.Nat.{ℕ, _-_, _<_, _≤_}
 use native.Mathlib.Omega.{arith}
-use borrow.Author.Needs.{needs}
 use borrow.Author.Count.{below-none, below-more}
 use lib.ListN.{getD}
 use Rattle.tariff.specs.declared.Hour.{Hour}
@@ -27,37 +26,22 @@ abbrev μ-loop : tie.MeasureT-loop
 
 -- ---- the first three lines
 
-is-hour-requires : tie.Need-is-hour-requires Inv-loop μ-loop
-is-hour-requires c κs = search needs
-
-ahead-in-range-requires : tie.Need-ahead-in-range-requires Inv-loop μ-loop
-ahead-in-range-requires c κs = search needs
-
-both-requires : tie.Need-both-requires Inv-loop μ-loop
-both-requires c κs = search needs
-
 -- line 1: the two answers joined
-joined : (c : tie.After-both Inv-loop μ-loop) → c .both .result ≡ (isHour (c .before .before .before .before .args .h .hour) && aheadInRange (c .before .before .before .before .args .h .ahead))
+joined : (c : tie.After-ahead-in-range Inv-loop μ-loop) → (c .before .is-hour .result && c .ahead-in-range .result) ≡ (isHour (c .before .before .before .args .h .hour) && aheadInRange (c .before .before .before .args .h .ahead))
 joined c =
-    let h = c .before .before .before .before .args .h in
-    let hour = handed (h .hour) (c .before .before .before .struct-told .given .0 .1) in
-    c .both .ensures ∙ (λ i. (c .before .before .is-hour .ensures ∙ ap isHour hour) i && c .before .ahead-in-range .ensures i)
+    let h = c .before .before .before .args .h in
+    let hour = handed (h .hour) (c .before .before .struct-told .given .0 .1) in
+    λ i. (c .before .is-hour .ensures ∙ ap isHour hour) i && c .ahead-in-range .ensures i
 
 returns : tie.Need-returns Inv-loop μ-loop
 unfolding range
 returns c = rw (fails (joined (c .before)) (c .if1 .taken))
-
-curve-in-range-requires : tie.Need-curve-in-range-requires Inv-loop μ-loop
-curve-in-range-requires c κs = let s = c .before .before .before .before .before in form-says (s .args .h) (s .pre) .0
 
 returns-2 : tie.Need-returns-2 Inv-loop μ-loop
 unfolding range
 returns-2 c =
     let one = c .before .before in
     rw (passes (joined (one .before)) (one .if1 .left), fails (c .before .curve-in-range .ensures) (c .if2 .taken))
-
-curve-in-range-requires-2 : tie.Need-curve-in-range-requires-2 Inv-loop μ-loop
-curve-in-range-requires-2 c κs = let s = c .before .before .before .before .before .before .before in form-says (s .args .h) (s .pre) .1
 
 returns-3 : tie.Need-returns-3 Inv-loop μ-loop
 unfolding range
@@ -67,7 +51,7 @@ returns-3 c =
     rw (passes (joined (one .before)) (one .if1 .left), passes (two .before .curve-in-range .ensures) (two .if2 .left), fails (c .before .curve-in-range2 .ensures) (c .if3 .taken))
 
 -- what is left of the check when those are in range
-rest : (c : tie.After-iv Inv-loop μ-loop) → range (c .before .before .before .before .before .before .before .before .before .before .args .h) ≡ firstOf (lineOf (inRange (c .before .before .before .before .before .before .before .before .before .before .args .h)) 4) (c .before .before .before .before .before .before .before .before .before .before .args .h .n)
+rest : (c : tie.After-iv Inv-loop μ-loop) → range (c .before .before .before .before .before .before .before .before .before .args .h) ≡ firstOf (lineOf (inRange (c .before .before .before .before .before .before .before .before .before .args .h)) 4) (c .before .before .before .before .before .before .before .before .before .args .h .n)
 unfolding range
 rest c =
     let three = c .before in
@@ -81,7 +65,7 @@ loop-holds : tie.Need-loop-holds Inv-loop μ-loop
 loop-holds c = (omega arith, below-none _)
 
 small : (c : tie.In-loop Inv-loop μ-loop) → c .before .loop .i < 30
-small c = let s = c .before .before .before .before .before .before .before .before .before .before .before .before in omega (arith, form-says (s .args .h) (s .pre))
+small c = let s = c .before .before .before .before .before .before .before .before .before .before .before in omega (arith, form-says (s .args .h) (s .pre))
 
 mul-v : tie.Need-mul-v Inv-loop μ-loop
 mul-v c = omega (arith, small c)
@@ -89,24 +73,18 @@ mul-v c = omega (arith, small c)
 array-copy-out-v : tie.Need-array-copy-out-v Inv-loop μ-loop
 array-copy-out-v c = small c
 
-interval-in-range-requires : tie.Need-interval-in-range-requires Inv-loop μ-loop
-interval-in-range-requires c κs = search needs
-
 add-t19 : tie.Need-add-t19 Inv-loop μ-loop
 add-t19 c = omega (arith, small (c .before .before .before))
 
 returns-4 : tie.Need-returns-4 Inv-loop μ-loop
 returns-4 c =
     let l = c .before .before .before .before in
-    let h = l .before .before .before .before .before .before .before .before .before .before .before .args .h in
+    let h = l .before .before .before .before .before .before .before .before .before .before .args .h in
     let line = line-fault (inRange h) 4 (l .loop .i) (l .loop .inv .1) (h .n) (c .before .before .before .loop-test .taken) (fails (c .before .interval-in-range .ensures) (c .if4 .taken)) in
     sym (rest (l .before) ∙ line)
 
 add-i : tie.Need-add-i Inv-loop μ-loop
 add-i c = omega (arith, small (c .before .before .before))
-
-loop-less : tie.Need-loop-less Inv-loop μ-loop
-loop-less c = omega arith
 
 loop-again : tie.Need-loop-again Inv-loop μ-loop
 loop-again c =
@@ -115,7 +93,7 @@ loop-again c =
 returns-5 : tie.Need-returns-5 Inv-loop μ-loop
 returns-5 c =
     let l = c .before in
-    let h = l .before .before .before .before .before .before .before .before .before .before .before .args .h in
+    let h = l .before .before .before .before .before .before .before .before .before .before .args .h in
     sym (rest (l .before) ∙ lines-clear (inRange h) 4 (l .loop .i) (l .loop .inv .1) (h .n) (omega arith))
 
 pub range-fault-spec : {M : Type 1} → statement M
@@ -124,21 +102,20 @@ range-fault-spec =
     (tie.spec
     Inv-loop
     μ-loop
-    is-hour-requires
-    ahead-in-range-requires
-    both-requires
+    (λ c κs. tt)
+    (λ c κs. tt)
     returns
-    curve-in-range-requires
+    (λ c κs. tt)
     returns-2
-    curve-in-range-requires-2
+    (λ c κs. tt)
     returns-3
     loop-holds
     mul-v
     array-copy-out-v
-    interval-in-range-requires
+    (λ c κs. tt)
     add-t19
     returns-4
     add-i
-    loop-less
+    (λ c. omega arith)
     loop-again
     returns-5)

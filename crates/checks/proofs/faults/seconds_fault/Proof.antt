@@ -2,7 +2,6 @@
 use mathlib.Core.Path.{_≡_, sym, _∙_}
 use Prim.Native.Nat.{ℕ, _-_, _<_, _≤_}
 use native.Mathlib.Omega.{arith}
-use borrow.Author.Needs.{needs}
 use lib.ListN.{getD}
 use lib.IntN.{ℤ}
 use Rattle.exact.specs.Whole.{Within, sumTo}
@@ -50,16 +49,10 @@ seconds-plus-requires c κs =
 add-i : tie.Need-add-i Inv-loop μ-loop
 add-i c = omega (arith, small (c .before .before))
 
-loop-less : tie.Need-loop-less Inv-loop μ-loop
-loop-less c = omega arith
-
 loop-again : tie.Need-loop-again Inv-loop μ-loop
 loop-again c =
     let l = c .before .before .before .loop in
     (omega arith, c .seconds-plus .ensures ∙ rw (sum-more (secondsOf (c .before .before .before .before .before .args .h)) (l .i), l .inv .1))
-
-sum-fault-requires : tie.Need-sum-fault-requires Inv-loop μ-loop
-sum-fault-requires c κs = search needs
 
 returns : tie.Need-returns Inv-loop μ-loop
 unfolding secondsSum
@@ -79,7 +72,7 @@ seconds-fault-spec =
     array-copy-out-v
     seconds-plus-requires
     add-i
-    loop-less
+    (λ c. omega arith)
     loop-again
-    sum-fault-requires
+    (λ c κs. tt)
     returns)

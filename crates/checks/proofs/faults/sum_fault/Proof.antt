@@ -4,14 +4,8 @@ use borrow.Author.Needs.{needs}
 use Rattle.checks.proofs.faults.sum_fault.Statement.{statement}
 use Rattle.checks.proofs.faults.sum_fault.Tie as tie
 
-is-an-hour-requires : tie.Need-is-an-hour-requires
-is-an-hour-requires c κs = search needs
-
-returns : tie.Need-returns
-returns c = search needs
-
 returns-2 : tie.Need-returns-2
 returns-2 c = rw (sym (c .before .is-an-hour .ensures) ∙ c .if1 .left)
 
 pub sum-fault-spec : {M : Type 1} → statement M
-sum-fault-spec = tie.close (tie.spec is-an-hour-requires returns returns-2)
+sum-fault-spec = tie.close (tie.spec (λ c κs. tt) (λ c. search needs) returns-2)

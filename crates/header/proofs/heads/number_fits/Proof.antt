@@ -5,7 +5,7 @@ use borrow.Author.Needs.{needs}
 use Rattle.exact.proofs.Bits.{held}
 use Rattle.exact.proofs.Calls.{handed}
 use Rattle.tariff.specs.Import.{isName, isMark}
-use Rattle.lines.proofs.Lines.{none-from}
+use Rattle.keys.proofs.Keys.{none-from}
 use Rattle.header.specs.Places.{numberFits}
 use Rattle.header.proofs.HeaderRanges.{fits-mark}
 use Rattle.header.proofs.heads.number_fits.Statement.{statement}

@@ -2,7 +2,7 @@
 use Prim.Native.Nat.{_+_}
 use native.Mathlib.Omega.{arith}
 use borrow.Author.Needs.{needs}
-use Rattle.lines.proofs.Fill.{held-is}
+use Rattle.exact.proofs.Held.{held-is}
 use Rattle.lines.proofs.Lines.{is-line, fields-read}
 use Rattle.header.proofs.heads.number_of.Statement.{statement}
 use Rattle.header.proofs.heads.number_of.Tie as tie

@@ -6,7 +6,7 @@ use native.Mathlib.Omega.{arith}
 use borrow.Author.Needs.{needs}
 use Rattle.text.specs.declared.Next.the-variants.{At}
 use Rattle.lines.specs.Line.{lineAt}
-use Rattle.lines.proofs.Fill.{held-is}
+use Rattle.exact.proofs.Held.{held-is}
 use Rattle.lines.proofs.Lines.{FieldsRead, fields-read, line-is}
 use Rattle.imports.proofs.Blocks.{block-line1, block-row, block-read}
 use Rattle.imports.proofs.block.read_block.Statement.{statement}

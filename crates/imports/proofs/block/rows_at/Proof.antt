@@ -9,7 +9,7 @@ use Rattle.tariff.specs.Import.{blankCurtailed}
 use Rattle.lines.specs.Line.{lineAt, closes}
 use Rattle.lines.proofs.Lines.{FieldsRead, fields-read, line-is}
 use Rattle.lines.proofs.Rows.{ReadTo, rows-begin, rows-end, rows-over, rows-break, rows-next}
-use Rattle.imports.specs.Import.{curtailedOf}
+use Rattle.records.specs.Records.{curtailedOf}
 use Rattle.imports.proofs.Blocks.{curtailed-same}
 use Rattle.imports.proofs.block.rows_at.Statement.{statement}
 use Rattle.imports.proofs.block.rows_at.Tie as tie

@@ -9,7 +9,7 @@ use Rattle.exact.proofs.Calls.{handed}
 use Rattle.tariff.specs.Import.{importPart}
 use Rattle.lines.proofs.Pieces.{lent-to-the-end}
 use Rattle.imports.specs.Import.{importBlockAt}
-use Rattle.imports.specs.Read.{blockTold}
+use Rattle.imports.specs.Read.{readOf}
 use Rattle.imports.proofs.Blocks.{part-broken, part-read}
 use Rattle.imports.proofs.days.settle_block.Statement.{statement}
 use Rattle.imports.proofs.days.settle_block.Tie as tie
@@ -18,8 +18,8 @@ module _ (c : tie.After-read-block) where
   abbrev begun : tie.Start
   begun = c .before .before .before
 
-  read-is : blockTold (c .read-block .result) ≡ importBlockAt (drop (begun .args .at) (begun .args .s .now)) 0
-  read-is = c .read-block .ensures ∙ ap (λ (l : List ℕ). importBlockAt l 0) (lent-to-the-end (begun .args .s .now) (begun .args .at))
+  read-is : c .read-block .result ≡ readOf (importBlockAt (drop (begun .args .at) (begun .args .s .now)) 0)
+  read-is = c .read-block .ensures ∙ ap (λ (l : List ℕ). readOf (importBlockAt l 0)) (lent-to-the-end (begun .args .s .now) (begun .args .at))
 
 sub-rest : tie.Need-sub-rest
 sub-rest c = search needs

@@ -10,9 +10,10 @@ use mir.Val.{toZ}
 use Rattle.exact.proofs.Bits.{held}
 use Rattle.exact.proofs.Calls.{handed}
 use Rattle.exact.proofs.Range.{within-more}
-use Rattle.tariff.specs.Import.{partsTo, settled, worthTold}
+use Rattle.tariff.specs.Import.{Part, partsTo, settled, worthTold}
 use Rattle.lines.proofs.Pieces.{piece-behind}
 use Rattle.imports.specs.Import.{partAt}
+use Rattle.imports.specs.Read.{handedOn}
 use Rattle.imports.proofs.Added.{Added, none-added, here-within, one-added, one-refused, all-surplus, all-paid}
 use Rattle.imports.proofs.days.settle_blocks.Statement.{statement}
 use Rattle.imports.proofs.days.settle_blocks.Tie as tie
@@ -48,7 +49,8 @@ returns c =
     let L = b .before .before .loop in
     let s = b .before .before .before .before in
     let told = ap worthTold (c .before .enum-told .given .1) in
-    c .handed-on .ensures _ _ told
+    c .handed-on .ensures
+    ∙ ap (λ (p : Part). handedOn p (L .k)) told
     ∙ sym (ap (settled _ _) (sym (day-is s) ∙ one-refused _ _ _ _ _ _ (L .inv .1) _ (b .settle-block .ensures) _ _ _ (b .before .loop-test .taken) told))
 
 plus-requires : tie.Need-plus-requires Inv-loop μ-loop

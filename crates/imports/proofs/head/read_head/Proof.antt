@@ -10,7 +10,7 @@ use Rattle.exact.proofs.Calls.{passes, fails}
 use Rattle.tariff.specs.Import.{isMark, isName}
 use Rattle.text.specs.declared.Next.the-variants.{At}
 use Rattle.lines.specs.Line.{lineFeed}
-use Rattle.lines.proofs.Fill.{held-is}
+use Rattle.exact.proofs.Held.{held-is}
 use Rattle.lines.proofs.Lines.{FieldsRead, fields-read, line-is}
 use Rattle.imports.specs.Import.{headLine, nameIn, ctsIn}
 use Rattle.imports.proofs.Heads.{head-line1, head-line2, head-range, head-said}

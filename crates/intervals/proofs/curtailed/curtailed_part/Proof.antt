@@ -1,7 +1,6 @@
 -- `curtailed::curtailed_part` gives what a counting interval gives, and its product fits.
 use mathlib.Core.Path.{_≡_, _∙_, ap}
 use mathlib.Core.Bool.{true}
-use borrow.Author.Needs.{needs}
 use lib.IntN.{ℤ, pos, _-ℤ_, _*ℤ_, *ℤ-comm}
 use Rattle.exact.specs.Whole.{maxℤ}
 use Rattle.exact.proofs.Calls.{passes, fails, handed}
@@ -22,9 +21,6 @@ counting cts h v e =
     let gain = v .lbmp .0 -ℤ maxℤ (h .dec .0) (pos 0) in
     rw e (ap (λ (z : ℤ). z *ℤ v .s .0) (*ℤ-comm gap gain))
 
-is-counted-requires : tie.Need-is-counted-requires
-is-counted-requires c κs = search needs
-
 -- the call's answer, in an hour with this schedule
 counted : (c : tie.After-is-counted) (h : ImportHour) → h .den ≡ c .before .args .den → c .is-counted .result ≡ counts (c .before .args .cts) h (c .before .args .v)
 counted c h den =
@@ -37,9 +33,6 @@ returns c h den dec = rw (fails (counted (c .before) h den) (c .if1 .taken))
 
 kw-minus-requires : tie.Need-kw-minus-requires
 kw-minus-requires c κs = let p = c .before .before .pre in (p .0, p .2)
-
-price-or-zero-requires : tie.Need-price-or-zero-requires
-price-or-zero-requires c κs = search needs
 
 price-minus-requires : tie.Need-price-minus-requires
 price-minus-requires c κs =
@@ -56,18 +49,27 @@ product-requires c κs =
 
 returns-2 : tie.Need-returns-2
 returns-2 c h den dec =
-    let s = c .before .before .before .before .before .before in
-    let holds = passes (counted (c .before .before .before .before .before) h den) (c .before .before .before .before .if1 .left) in
-    rw (← counting (s .args .cts) h (s .args .v) holds, den, dec) (cc)
+    let gap = c .before .before .before in
+    let t = gap .before in
+    let s = t .before .before in
+    rw (
+      ← counting (s .args .cts) h (s .args .v) (passes (counted (t .before) h den) (t .if1 .left)),
+      den,
+      dec,
+      c .product .ensures,
+      c .before .price-minus .ensures,
+      c .before .before .price-or-zero .ensures,
+      gap .kw-minus .ensures,
+    )
 
 pub curtailed-part-spec : {M : Type 1} → statement M
 curtailed-part-spec =
     tie.close
     (tie.spec
-    is-counted-requires
+    (λ c κs. tt)
     returns
     kw-minus-requires
-    price-or-zero-requires
+    (λ c κs. tt)
     price-minus-requires
     product-requires
     returns-2)

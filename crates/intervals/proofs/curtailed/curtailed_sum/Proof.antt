@@ -69,9 +69,6 @@ grains-plus-requires c κs =
 add-i : tie.Need-add-i Inv-loop μ-loop
 add-i c = let u = few (c .before .before .before .before .before .before .before .before) in omega arith
 
-loop-less : tie.Need-loop-less Inv-loop μ-loop
-loop-less c = omega arith
-
 loop-again : tie.Need-loop-again Inv-loop μ-loop
 loop-again c =
     let h = c .before .before .before .before .before .before .before .before .args .h in
@@ -106,6 +103,6 @@ curtailed-sum-spec =
     curtailed-part-requires
     grains-plus-requires
     add-i
-    loop-less
+    (λ c. omega arith)
     loop-again
     returns)

@@ -5,12 +5,6 @@ use Rattle.tariff.specs.Contributions.{movement}
 use Rattle.intervals.proofs.others.movement_part.Statement.{statement}
 use Rattle.intervals.proofs.others.movement_part.Tie as tie
 
-move-minus-requires : tie.Need-move-minus-requires
-move-minus-requires c κs = search needs
-
-move-or-zero-requires : tie.Need-move-or-zero-requires
-move-or-zero-requires c κs = search needs
-
 moved-requires : tie.Need-moved-requires
 moved-requires c κs =
     let p = c .before .before .pre in (
@@ -20,8 +14,8 @@ moved-requires c κs =
 
 returns : tie.Need-returns
 unfolding movement
-returns c = cc
+returns c = rw (c .moved .ensures, c .before .move-or-zero .ensures, c .before .before .move-minus .ensures)
 
 pub movement-part-spec : {M : Type 1} → statement M
 movement-part-spec =
-    tie.close (tie.spec move-minus-requires move-or-zero-requires moved-requires returns)
+    tie.close (tie.spec (λ c κs. search needs) (λ c κs. tt) moved-requires returns)

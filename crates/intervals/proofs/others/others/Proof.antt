@@ -28,9 +28,6 @@ parts c = parts-fit (c .args .a) (c .args .v) (c .pre .0) (c .pre .1) (close c)
 
 -- ---- the five parts
 
-array-copy-out-regulation-part : tie.Need-array-copy-out-regulation-part
-array-copy-out-regulation-part c = search needs
-
 regulation-part-requires : tie.Need-regulation-part-requires
 regulation-part-requires c κs =
     let s = c .before .before in
@@ -38,26 +35,17 @@ regulation-part-requires c κs =
     let v = live s in
     (s .pre .3 .close 1 (omega arith), v .reg, v .preg, a .breg, v .breg, v .s)
 
-array-copy-out-reserve-part : tie.Need-array-copy-out-reserve-part
-array-copy-out-reserve-part c = search needs
-
 reserve-part-requires : tie.Need-reserve-part-requires
 reserve-part-requires c κs =
     let s = c .before .before .before .before in
     let v = live s in
     (s .pre .3 .close 2 (omega arith), v .r1, v .p1, ahead s .b1, v .s)
 
-array-copy-out-reserve-part-2 : tie.Need-array-copy-out-reserve-part-2
-array-copy-out-reserve-part-2 c = search needs
-
 reserve-part-requires-2 : tie.Need-reserve-part-requires-2
 reserve-part-requires-2 c κs =
     let s = c .before .before .before .before .before .before in
     let v = live s in
     (s .pre .3 .close 3 (omega arith), v .r2, v .p2, ahead s .b2, v .s)
-
-array-copy-out-reserve-part-3 : tie.Need-array-copy-out-reserve-part-3
-array-copy-out-reserve-part-3 c = search needs
 
 reserve-part-requires-3 : tie.Need-reserve-part-requires-3
 reserve-part-requires-3 c κs =
@@ -132,13 +120,13 @@ pub others-spec : {M : Type 1} → statement M
 others-spec =
     tie.close
     (tie.spec
-    array-copy-out-regulation-part
+    (λ c. search needs)
     regulation-part-requires
-    array-copy-out-reserve-part
+    (λ c. search needs)
     reserve-part-requires
-    array-copy-out-reserve-part-2
+    (λ c. search needs)
     reserve-part-requires-2
-    array-copy-out-reserve-part-3
+    (λ c. search needs)
     reserve-part-requires-3
     grains-plus-requires
     grains-plus-requires-2

@@ -4,9 +4,6 @@ use Rattle.exact.proofs.Range.{within-lit, within-less, within-mul}
 use Rattle.intervals.proofs.walk.cost_plus.Statement.{statement}
 use Rattle.intervals.proofs.walk.cost_plus.Tie as tie
 
-kw-minus-requires : tie.Need-kw-minus-requires
-kw-minus-requires c κs = search needs
-
 product-requires : tie.Need-product-requires
 product-requires c κs =
     let w = c .before .pre in
@@ -22,4 +19,4 @@ returns c = rw (c .grains-plus .ensures, c .before .product .ensures, c .before 
 
 pub cost-plus-spec : {M : Type 1} → statement M
 cost-plus-spec =
-    tie.close (tie.spec kw-minus-requires product-requires grains-plus-requires returns)
+    tie.close (tie.spec (λ c κs. search needs) product-requires grains-plus-requires returns)

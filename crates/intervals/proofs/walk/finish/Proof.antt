@@ -1,23 +1,17 @@
 -- `walk::finish` gives the interval's contribution from the cost of its stretch; no sum on the way is too large.
-use mathlib.Core.Path.{_≡_}
+use mathlib.Core.Path.{_≡_, sym}
 use borrow.Author.Needs.{needs}
 use Rattle.exact.specs.Whole.{Within}
 use Rattle.exact.proofs.Range.{within-lit, within-less, within-min, within-zero}
 use Rattle.intervals.specs.Task.{energyPart}
-use Rattle.intervals.proofs.Tasks.{finished-lower, finished-upper, sold-within, signed-within, energy-within}
+use Rattle.intervals.proofs.Tasks.{energy-is, finished-lower, finished-upper, sold-within, signed-within, energy-within}
 use Rattle.intervals.proofs.walk.finish.Statement.{statement}
 use Rattle.intervals.proofs.walk.finish.Tie as tie
-
-kw-minus-requires : tie.Need-kw-minus-requires
-kw-minus-requires c κs = search needs
 
 product-requires : tie.Need-product-requires
 product-requires c κs =
     let f = c .before .pre .0 in
     (rw (c .kw-minus .ensures) (within-less (f .from) (f .limit)), within-lit tt (f .pen), f .s)
-
-signed-cost-requires : tie.Need-signed-cost-requires
-signed-cost-requires c κs = search needs
 
 grains-plus-requires : tie.Need-grains-plus-requires
 grains-plus-requires c κs =
@@ -33,7 +27,9 @@ module _ (c : tie.After-grains-plus) where
   start = c .before .before .before .before
 
   energy : c .grains-plus .result .0 ≡ energyPart (start .args .t) (start .args .cost .0)
-  energy = cc
+  energy =
+      let p = c .before .before in
+      energy-is (start .args .t) (start .args .cost .0) (p .before .kw-minus .ensures) (p .product .ensures) (c .before .signed-cost .ensures) (c .grains-plus .ensures)
 
   energy-fits : Within 7600000000000000 (c .grains-plus .result .0)
   energy-fits = rw energy (energy-within (start .args .t) (start .args .cost .0) (start .pre .0) (start .pre .1))
@@ -41,9 +37,6 @@ module _ (c : tie.After-grains-plus) where
 grains-plus-requires-2 : tie.Need-grains-plus-requires-2
 grains-plus-requires-2 c κs =
     (within-lit tt (energy-fits (c .before)), within-lit tt (start (c .before) .pre .0 .others))
-
-loss-or-zero-requires : tie.Need-loss-or-zero-requires
-loss-or-zero-requires c κs = search needs
 
 grains-plus-requires-3 : tie.Need-grains-plus-requires-3
 grains-plus-requires-3 c κs = (
@@ -53,24 +46,26 @@ grains-plus-requires-3 c κs = (
 
 returns : tie.Need-returns
 returns c =
-    let s = start (c .before .before) in
-    cc (energy (c .before .before), finished-lower (s .args .t) (s .args .cost .0) (c .before .if1 .taken))
+    let e = c .before .before in
+    let s = start e .args in
+    rw (c .grains-plus2 .ensures, energy e) (sym (finished-lower (s .t) (s .cost .0) (c .before .if1 .taken)))
 
 returns-2 : tie.Need-returns-2
 returns-2 c =
-    let s = start (c .before .before .before) in
-    cc (energy (c .before .before .before), finished-upper (s .args .t) (s .args .cost .0) (c .before .before .if1 .left))
+    let e = c .before .before .before in
+    let s = start e .args in
+    rw (c .grains-plus3 .ensures, c .before .loss-or-zero .ensures, energy e) (sym (finished-upper (s .t) (s .cost .0) (c .before .before .if1 .left)))
 
 pub finish-spec : {M : Type 1} → statement M
 finish-spec =
     tie.close
     (tie.spec
-    kw-minus-requires
+    (λ c κs. search needs)
     product-requires
-    signed-cost-requires
+    (λ c κs. search needs)
     grains-plus-requires
     grains-plus-requires-2
-    loss-or-zero-requires
+    (λ c κs. tt)
     grains-plus-requires-3
     returns
     returns-2)

@@ -1,44 +1,37 @@
 -- `walk::prepare` gives what the interval asks: nothing to price, a reduction with no room, or its stretch.
 use mathlib.Core.Path.{_≡_, sym, ap, _∙_}
-use mathlib.Core.Bool.{true, false}
+use mathlib.Core.Bool.{false}
 use borrow.Author.Needs.{needs}
 use Rattle.tariff.specs.Eligible.{lags}
 use Rattle.tariff.specs.Derate.{exceedsRoom, reduced}
 use Rattle.tariff.proofs.Ranges.{interval-fits}
 use Rattle.tariff.proofs.Reduced.{reduced-within}
+use Rattle.derate.specs.declared.Derated.{Derated}
+use Rattle.derate.proofs.Sheets.{sheet-exceeds, sheet-reduced}
 use Rattle.intervals.specs.declared.steps.Prepared.the-variants.{Ready}
-use Rattle.intervals.specs.Five.{kwFive, Close}
+use Rattle.derate.specs.Five.{kwFive, Close}
 use Rattle.intervals.specs.Task.{preparedOf}
-use Rattle.exact.proofs.Calls.{passes, fails}
-use Rattle.exact.proofs.Order.{no-le, le-unless}
-use Rattle.intervals.proofs.Fives.{closes}
+use Rattle.derate.proofs.Fives.{closes}
 use Rattle.intervals.proofs.Tasks.{task-same}
 use Rattle.intervals.proofs.walk.prepare.Statement.{statement}
 use Rattle.intervals.proofs.walk.prepare.Tie as tie
 
-below-requires : tie.Need-below-requires
-below-requires c κs = search needs
-
-lagging : (c : tie.Then1) → lags (c .before .before .args .v) ≡ true
-lagging c =
-    let v = c .before .before .args .v in
-    le-unless (v .lim .0) (v .ae .0) (fails (c .before .below .ensures) (c .if1 .taken))
-
 moving : (c : tie.Else1) → lags (c .before .before .args .v) ≡ false
-moving c =
-    let v = c .before .before .args .v in
-    no-le (v .lim .0) (v .ae .0) (passes (c .before .below .ensures) (c .if1 .left))
+moving c = sym (c .before .lags .ensures) ∙ c .if1 .left
 
 returns : tie.Need-returns
 unfolding preparedOf
-returns c = rw (lagging c)
+returns c = rw (sym (c .before .lags .ensures) ∙ c .if1 .taken)
 
-derate-of-requires : tie.Need-derate-of-requires
-derate-of-requires c κs = search needs
+-- the interval is one of a sheet, so its derate is document 01's
+told : (c : tie.After-derate-of) → c .derate-of .result .exceeds ≡ exceedsRoom (c .before .before .before .args .a) (c .before .before .before .args .v)
+told c =
+    let s = c .before .before .before in
+    ap (λ (r : Derated). r .exceeds) (c .derate-of .ensures) ∙ sheet-exceeds (s .args .a) (s .args .v) (s .pre .0) (s .pre .1)
 
 returns-2 : tie.Need-returns-2
 unfolding preparedOf
-returns-2 c = rw (moving (c .before .before), sym (c .before .derate-of .ensures .told) ∙ c .if2 .taken)
+returns-2 c = rw (moving (c .before .before), sym (told (c .before)) ∙ c .if2 .taken)
 
 -- where the reduction has room
 
@@ -47,29 +40,22 @@ module _ (c : tie.Else2) where
   start = c .before .before .before .before
 
   roomy : exceedsRoom (start .args .a) (start .args .v) ≡ false
-  roomy = sym (c .before .derate-of .ensures .told) ∙ c .if2 .left
+  roomy = sym (told (c .before)) ∙ c .if2 .left
 
   kept : c .before .derate-of .result .schedules ≡ kwFive (reduced (start .args .a) (start .args .v))
-  kept = c .before .derate-of .ensures .kept (c .if2 .left)
+  kept =
+      ap (λ (r : Derated). r .schedules) (c .before .derate-of .ensures)
+      ∙ sheet-reduced (start .args .a) (start .args .v) (start .pre .0) (start .pre .1) roomy
 
   close : Close (c .before .derate-of .result .schedules)
   close =
       rw kept (closes (reduced (start .args .a) (start .args .v)) (reduced-within (start .args .a) (start .args .v) (start .pre .0) (start .pre .1) roomy))
-
-array-copy-out-from : tie.Need-array-copy-out-from
-array-copy-out-from c = search needs
 
 capped-output-requires : tie.Need-capped-output-requires
 capped-output-requires c κs =
     let s = start (c .before .before .before) in
     let g = interval-fits (s .args .v) (s .pre .1) in
     (g .en, g .co)
-
-limit-of-requires : tie.Need-limit-of-requires
-limit-of-requires c κs = search needs
-
-is-lower-requires : tie.Need-is-lower-requires
-is-lower-requires c κs = search needs
 
 others-requires : tie.Need-others-requires
 others-requires c κs =
@@ -97,13 +83,12 @@ pub prepare-spec : {M : Type 1} → statement M
 prepare-spec =
     tie.close
     (tie.spec
-    below-requires
+    (λ c κs. tt)
     returns
-    derate-of-requires
+    (λ c κs. tt)
     returns-2
-    array-copy-out-from
+    (λ c. search needs)
     capped-output-requires
-    limit-of-requires
-    is-lower-requires
+    (λ c κs. tt) (λ c κs. tt)
     others-requires
     returns-3)

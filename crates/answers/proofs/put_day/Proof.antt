@@ -1,0 +1,36 @@
+-- `put_day` writes a refused header's refusal, or the hours and the total.
+use mathlib.Core.Path.{sym, ap}
+use borrow.Author.Needs.{needs}
+use Rattle.tariff.specs.declared.Found.{Found}
+use Rattle.tariff.specs.Reply.{shown}
+use Rattle.tariff.specs.Total.{toldTotal, toldAll}
+use Rattle.page.proofs.Pages.{put-then, put-as}
+use Rattle.answers.specs.Answers.{dayLines}
+use Rattle.answers.proofs.put_day.Statement.{statement}
+use Rattle.answers.proofs.put_day.Tie as tie
+
+refusal : tie.Need-returns
+refusal c =
+    let a = c .before .before .before .before .before .before .before .before .args in
+    put-as (ap (λ (f : Found). dayLines (shown f) (toldAll (a .hours)) (toldTotal (a .total))) (sym (c .before .before .before .before .before .header .given .1))) (c .before .before .put-refusal .ensures)
+
+lines : tie.Need-returns-2
+lines c =
+    let a = c .before .before .before .before .before .before .before .before .before .before .before .args in
+    put-as
+    (ap (λ (f : Found). dayLines (shown f) (toldAll (a .hours)) (toldTotal (a .total))) (sym (c .before .before .before .before .before .before .before .before .enum-told .given .1)))
+    (put-then (c .before .before .before .before .before .before .put-hours .ensures) (c .before .before .put-total .ensures))
+
+pub put-day-spec : {M : Type 1} → statement M
+put-day-spec =
+    tie.close
+    (tie.spec
+    (λ c. search needs)
+    (λ c κs. search needs)
+    (λ c. search needs)
+    (λ c κs. search needs)
+    (λ c κs. search needs)
+    (λ c. search needs)
+    refusal
+    (λ c. search needs)
+    lines)

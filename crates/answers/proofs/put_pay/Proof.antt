@@ -1,0 +1,48 @@
+-- `put_pay` writes whose payment it is, the payment and the line feed, one behind the other.
+use mathlib.Core.Path.{ap}
+use borrow.Author.Needs.{needs}
+use Rattle.exact.proofs.Calls.{handed}
+use Rattle.text.specs.Text.{bytes}
+use Rattle.page.proofs.Pages.{put-then, put-as}
+use Rattle.page.specs.Numerals.{valued}
+use Rattle.answers.proofs.put_pay.Statement.{statement}
+use Rattle.answers.proofs.put_pay.Tie as tie
+
+put-signed-requires : tie.Need-put-signed-requires
+put-signed-requires c κs = search needs
+
+slice-aggregate-put-signed : tie.Need-slice-aggregate-put-signed
+slice-aggregate-put-signed c = search needs
+
+put-signed-requires-2 : tie.Need-put-signed-requires-2
+put-signed-requires-2 c κs = search needs
+
+slice-aggregate-put : tie.Need-slice-aggregate-put
+slice-aggregate-put c = search needs
+
+put-requires : tie.Need-put-requires
+put-requires c κs = search needs
+
+same-length : tie.Need-same-length
+same-length c = search needs
+
+returns : tie.Need-returns
+returns c =
+    let s = c .before .before .before .before .before .before .before .before .before .before .before .before .before .before .before .before .before in
+    put-then
+    (put-then
+    (put-as (ap (valued (s .args .key .now)) (handed (s .args .name) (s .fits .name .sfits))) (c .before .before .before .before .before .before .before .before .before .before .before .before .before .put-signed .ensures))
+    (put-as (ap (valued (bytes " pay=")) (handed (s .args .cents .0) (c .before .before .before .before .before .before .before .before .struct-told .given .0 .1))) (c .before .before .before .before .before .before .before .put-signed2 .ensures)))
+    (c .before .before .put .ensures)
+
+pub put-pay-spec : {M : Type 1} → statement M
+put-pay-spec =
+    tie.close
+    (tie.spec
+    put-signed-requires
+    slice-aggregate-put-signed
+    put-signed-requires-2
+    slice-aggregate-put
+    put-requires
+    same-length
+    returns)

@@ -1,0 +1,58 @@
+-- "Programs": the lines of each kind of answer, byte by byte. Each line ends with LF.
+use mathlib.Core.List.{List, [], _∷_, _++_}
+use Prim.Native.Nat.{ℕ, suc}
+use lib.IntN.{ℤ, pos}
+use Rattle.tariff.specs.Reply.{Reply, paid, refused, Verdict, clear, fault}
+use Rattle.tariff.specs.Total.{Sum, total, none}
+use Rattle.tariff.specs.Import as import
+use Rattle.text.specs.Text.{bytes}
+use Rattle.page.specs.Numerals.{counted, valued}
+
+abbrev pub feed : List ℕ
+feed = 10 ∷ []
+
+abbrev pub refusedLine : (number place : ℕ) → List ℕ
+refusedLine number place = counted (bytes "refused=") number ++ counted (bytes " at=") place ++ feed
+
+-- a payment behind the key and number of what is paid
+abbrev pub payLine : List ℕ → ℤ → (cents : ℤ) → List ℕ
+payLine key name cents = valued key name ++ valued (bytes " pay=") cents ++ feed
+
+abbrev pub intervalLine : ℕ → (grains : ℤ) → List ℕ
+intervalLine i grains = counted (bytes "i=") i ++ valued (bytes " grains=") grains ++ feed
+
+-- a line for each entry of a list, numbered from k on
+unfoldable pub numbered : {A : Type 0} → (ℕ → A → List ℕ) → (k : ℕ) → List A → List ℕ
+numbered line k [] = []
+numbered line k (x ∷ xs) = line k x ++ numbered line (suc k) xs
+
+-- ---- an hour: each interval's grains, then the hour in cents, or the refusal alone
+
+abbrev pub answerText : (hour : ℤ) → (grains : List ℤ) → Reply → List ℕ
+answerText hour grains (paid sum cents) = numbered intervalLine 1 grains ++ payLine (bytes "hour=") hour cents
+answerText hour grains (refused number place) = refusedLine number place
+
+-- ---- a day: a line for each block place, then the total, or a refused header's refusal alone
+
+abbrev pub hourLine : ℕ → Reply → List ℕ
+hourLine k (paid sum cents) = payLine (bytes "hour=") (pos k) cents
+hourLine k (refused number place) = counted (bytes "hour=") k ++ bytes " " ++ refusedLine number place
+
+abbrev pub totalLine : Sum → List ℕ
+totalLine (total cents) = valued (bytes "total=") cents ++ feed
+totalLine none = bytes "total=-\n"
+
+abbrev pub dayLines : Verdict → List Reply → Sum → List ℕ
+dayLines clear replies sum = numbered hourLine 0 replies ++ totalLine sum
+dayLines (fault number place) replies sum = refusedLine number place
+
+-- ---- an import: the payment, or the refusal with its hour
+
+abbrev pub hourOrNone : import.Where → List ℕ
+hourOrNone import.outside = bytes " hour=-"
+hourOrNone (import.inHour k) = counted (bytes " hour=") k
+
+abbrev pub importLine : import.ImportReply → List ℕ
+importLine (import.paid name grains cents) = payLine (bytes "import=") name cents
+importLine (import.refused number hour place) =
+    counted (bytes "refused=") number ++ hourOrNone hour ++ counted (bytes " at=") place ++ feed

@@ -1,0 +1,169 @@
+-- `block::read_block` meets its contract, line by line.
+use mathlib.Core.Path.{_≡_, refl, sym, _∙_}
+use mathlib.Core.List.{List}
+use Prim.Native.Nat.{ℕ}
+use native.Mathlib.Omega.{arith}
+use Rattle.text.specs.declared.Next.the-variants.{At}
+use Rattle.lines.specs.Line.{lineAt}
+use Rattle.blocks.specs.CurveLine.{curveLine, curveOf}
+use Rattle.exact.proofs.Held.{held-is}
+use Rattle.lines.proofs.Lines.{FieldsRead, fields-read, line-is}
+use Rattle.blocks.proofs.Values.{ahead-same}
+use Rattle.blocks.proofs.Blocks.{block-line1, block-line2, block-line3, block-row, block-read}
+use borrow.Author.Needs.{needs}
+use Rattle.blocks.proofs.block.read_block.Statement.{statement}
+use Rattle.blocks.proofs.block.read_block.Tie as tie
+
+-- what is known after line 1, and where lines 2, 3 and 4 begin
+abbrev text : tie.After-line-end → List ℕ
+text c = c .before .before .before .before .args .s .now
+
+abbrev begins : tie.After-line-end → ℕ
+begins c = c .before .before .before .before .args .at
+
+fields1 : (c : tie.After-line-end) → FieldsRead 0 10 (text c) (begins c) (c .before .before .fields-at .result)
+fields1 c = fields-read 0 10 _ (begins c) _ refl (c .before .before .fields-at .ensures)
+
+line1 : (c : tie.After-line-end) → lineAt 0 10 (text c) (begins c) ≡ c .line-end .result
+line1 c = line-is 0 10 _ (begins c) _ _ (fields1 c .next) (c .line-end .ensures)
+
+module _ (c : tie.After-known-told) where
+  abbrev in1 : tie.After-line-end
+  in1 = c .before .before .before
+
+  abbrev place2 : ℕ
+  place2 = c .before .p1 .given .0 .0
+
+  line2-at : lineAt 0 10 (text in1) (begins in1) ≡ At place2
+  line2-at = line1 in1 ∙ c .before .p1 .given .1
+
+module _ (c : tie.After-known-told2) where
+  abbrev in2 : tie.After-known-told
+  in2 = c .before .before .before .before
+
+  abbrev place3 : ℕ
+  place3 = c .before .da-next .given .0 .0
+
+  line3-at : curveLine 10 (text (in1 in2)) (place2 in2) ≡ At place3
+  line3-at = sym (c .before .before .before .curve-at .ensures .next) ∙ c .before .da-next .given .1
+
+  da-is : c .before .before .before .curve-at .result .curve ≡ curveOf 10 (text (in1 in2)) (place2 in2)
+  da-is = c .before .before .before .curve-at .ensures .curve _ (c .before .da-next .given .1)
+
+module _ (c : tie.After-known-told3) where
+  abbrev in3 : tie.After-known-told2
+  in3 = c .before .before .before .before
+
+  abbrev place4 : ℕ
+  place4 = c .before .rt-next .given .0 .0
+
+  line4-at : curveLine 12 (text (in1 (in2 in3))) (place3 in3) ≡ At place4
+  line4-at = sym (c .before .before .before .curve-at2 .ensures .next) ∙ c .before .rt-next .given .1
+
+  rt-is : c .before .before .before .curve-at2 .result .curve ≡ curveOf 12 (text (in1 (in2 in3))) (place3 in3)
+  rt-is = c .before .before .before .curve-at2 .ensures .curve _ (c .before .rt-next .given .1)
+
+fields-at-requires : tie.Need-fields-at-requires
+fields-at-requires c κs = search needs
+
+line-end-requires : tie.Need-line-end-requires
+line-end-requires c κs = search needs
+
+enum-known-p1 : tie.Need-enum-known-p1
+enum-known-p1 c = search needs
+
+enum-told : tie.Need-enum-told
+enum-told c = search needs
+
+broken-block-requires : tie.Need-broken-block-requires
+broken-block-requires c κs = search needs
+
+returns : tie.Need-returns
+returns c = block-line1 _ _ _ (line1 (c .before .before .before) ∙ c .before .enum-told .given .1) (c .broken-block .ensures)
+
+curve-at-requires : tie.Need-curve-at-requires
+curve-at-requires c κs = search needs
+
+enum-known-da-next : tie.Need-enum-known-da-next
+enum-known-da-next c = search needs
+
+enum-told-2 : tie.Need-enum-told-2
+enum-told-2 c = search needs
+
+broken-block-requires-2 : tie.Need-broken-block-requires-2
+broken-block-requires-2 c κs = search needs
+
+returns-2 : tie.Need-returns-2
+returns-2 c =
+    let k = c .before .before .before in
+    block-line2 _ _ _ (line2-at (k .before)) _ (sym (k .curve-at .ensures .next) ∙ c .before .enum-told2 .given .1) (c .broken-block2 .ensures)
+
+curve-at-requires-2 : tie.Need-curve-at-requires-2
+curve-at-requires-2 c κs = search needs
+
+enum-known-rt-next : tie.Need-enum-known-rt-next
+enum-known-rt-next c = search needs
+
+enum-told-3 : tie.Need-enum-told-3
+enum-told-3 c = search needs
+
+broken-block-requires-3 : tie.Need-broken-block-requires-3
+broken-block-requires-3 c κs = search needs
+
+returns-3 : tie.Need-returns-3
+returns-3 c =
+    let k = c .before .before .before in
+    block-line3 _ _ _ (line2-at (in2 (k .before))) _ (line3-at (k .before)) _ (sym (k .curve-at2 .ensures .next) ∙ c .before .enum-told3 .given .1)
+    (c .broken-block3 .ensures)
+
+rows-at-requires : tie.Need-rows-at-requires
+rows-at-requires c κs = search needs
+
+broken-block-requires-4 : tie.Need-broken-block-requires-4
+broken-block-requires-4 c κs = search needs
+
+returns-4 : tie.Need-returns-4
+returns-4 c =
+    let k = c .before .before .before in
+    block-row _ _ _ (line2-at (in2 (in3 k))) _ (line3-at (in3 k)) _ (line4-at k) _ (c .before .before .rows-at .ensures) _ (c .before .if1 .taken) (c .broken-block4 .ensures)
+
+ahead-of-requires : tie.Need-ahead-of-requires
+ahead-of-requires c κs = search needs
+
+array-copy-out-t25 : tie.Need-array-copy-out-t25
+array-copy-out-t25 c = search needs
+
+returns-5 : tie.Need-returns-5
+returns-5 c =
+    let k = c .before .before .before .before .before .before .before in
+    let v = fields1 (in1 (in2 (in3 k))) .values in
+    block-read _ _ _ (line2-at (in2 (in3 k))) _ (line3-at (in3 k)) _ (line4-at k) _ (c .before .before .before .before .before .before .rows-at .ensures) _ _ _ _
+    (c .before .before .before .before .before .if1 .left)
+    (held-is _ _ (c .t25 .given) (v 0 (omega arith))) (c .before .before .before .before .ahead-of .ensures ∙ ahead-same _ _ v) (da-is (in3 k)) (rt-is k)
+
+pub read-block-spec : {M : Type 1} → statement M
+read-block-spec =
+    tie.close
+    (tie.spec
+    fields-at-requires
+    line-end-requires
+    enum-known-p1
+    enum-told
+    broken-block-requires
+    returns
+    curve-at-requires
+    enum-known-da-next
+    enum-told-2
+    broken-block-requires-2
+    returns-2
+    curve-at-requires-2
+    enum-known-rt-next
+    enum-told-3
+    broken-block-requires-3
+    returns-3
+    rows-at-requires
+    broken-block-requires-4
+    returns-4
+    ahead-of-requires
+    array-copy-out-t25
+    returns-5)

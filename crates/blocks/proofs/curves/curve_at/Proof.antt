@@ -1,0 +1,97 @@
+-- `block::curve_at` meets its contract: the line's head, a count of at most 12, and its pairs.
+use mathlib.Core.Path.{_≡_, sym, _∙_, ap}
+use native.Mathlib.Omega.{arith}
+use borrow.Author.Needs.{needs}
+use lib.IntN.{pos}
+use lib.ListN.{getD}
+use Rattle.exact.proofs.Bits.{held}
+use Rattle.text.specs.declared.Next.{Next}
+use Rattle.lines.specs.Line.{afterFields, valueIn}
+use Rattle.blocks.specs.CurveLine.{countOf}
+use Rattle.exact.proofs.Held.{held-is}
+use Rattle.lines.proofs.Lines.{FieldsRead, is-line, fields-read}
+use Rattle.blocks.proofs.CurveLines.{curve-headless, curve-many, curve-read}
+use Rattle.blocks.proofs.curves.curve_at.Statement.{statement}
+use Rattle.blocks.proofs.curves.curve_at.Tie as tie
+
+-- the head's two values
+module _ (c : tie.After-count-of) where
+  abbrev begun : tie.Start
+  begun = c .before .before .before .before .before .before
+
+  head : FieldsRead (begun .args .first) 2 (begun .args .s .now) (begun .args .at) (c .before .before .before .before .fields-at .result)
+  head = fields-read (begun .args .first) 2 _ _ _ (is-line (begun .args .first) 2 (begun .pre) (omega arith)) (c .before .before .before .before .fields-at .ensures)
+
+  head-is : {x : Next} → c .before .before .before .before .fields-at .result .next ≡ x → afterFields (begun .args .first) 2 (begun .args .s .now) (begun .args .at) ≡ x
+  head-is e = sym (head .next) ∙ e
+
+  start-is : held (getD (c .before .before .before .before .fields-at .result .values) 0 (pos 0)) ≡ valueIn (begun .args .first) (begun .args .s .now) (begun .args .at) 0
+  start-is = held-is _ _ (c .before .before .count-of-arg .given) (head .values 0 (omega arith))
+
+  count-is : c .count-of .result ≡ countOf (valueIn (begun .args .first) (begun .args .s .now) (begun .args .at) 1)
+  count-is =
+      c .count-of .ensures
+      ∙ ap countOf (held-is _ _ (c .before .count-of-arg2 .given) (head .values 1 (omega arith)))
+
+fields-at-requires : tie.Need-fields-at-requires
+fields-at-requires c κs = search needs
+
+array-copy-out-count-of : tie.Need-array-copy-out-count-of
+array-copy-out-count-of c = search needs
+
+array-copy-out-count-of-2 : tie.Need-array-copy-out-count-of-2
+array-copy-out-count-of-2 c = search needs
+
+count-of-requires : tie.Need-count-of-requires
+count-of-requires c κs = search needs
+
+enum-known-next : tie.Need-enum-known-next
+enum-known-next c = search needs
+
+enum-told : tie.Need-enum-told
+enum-told c = search needs
+
+no-curve-requires : tie.Need-no-curve-requires
+no-curve-requires c κs = search needs
+
+returns : tie.Need-returns
+returns c = curve-headless _ _ _ _ _ (head-is (c .before .before .before) (c .before .enum-told .given .1)) (c .no-curve .ensures)
+
+no-curve-requires-2 : tie.Need-no-curve-requires-2
+no-curve-requires-2 c κs = search needs
+
+returns-2 : tie.Need-returns-2
+returns-2 c =
+    let k = c .before .before .before .before .before in
+    curve-many _ _ _ _ (head-is k (c .before .before .before .next .given .1)) _ (count-is k) _ _ (c .before .if1 .taken) (c .no-curve2 .ensures)
+
+pairs-at-requires : tie.Need-pairs-at-requires
+pairs-at-requires c κs = search needs
+
+line-end-requires : tie.Need-line-end-requires
+line-end-requires c κs = search needs
+
+returns-3 : tie.Need-returns-3
+returns-3 c =
+    let k = c .before .before .before .before .before .before .before .before in
+    let p = c .before .before .before .pairs-at in
+    curve-read _ _ _ _ (head-is k (c .before .before .before .before .before .before .next .given .1)) _ (count-is k) (c .before .before .before .before .if1 .left)
+    _ (start-is k) (p .result) (p .ensures) _ (c .line-end .ensures)
+
+pub curve-at-spec : {M : Type 1} → statement M
+curve-at-spec =
+    tie.close
+    (tie.spec
+    fields-at-requires
+    array-copy-out-count-of
+    array-copy-out-count-of-2
+    count-of-requires
+    enum-known-next
+    enum-told
+    no-curve-requires
+    returns
+    no-curve-requires-2
+    returns-2
+    pairs-at-requires
+    line-end-requires
+    returns-3)

@@ -1,0 +1,115 @@
+-- `block::pairs_at` meets its contract. After j pairs the place is the one after them, and the first j of both arrays are filled.
+use mathlib.Core.Path.{_≡_, refl, sym, _∙_, ap}
+use Prim.Native.Nat.{_-_, _≤_, _<_}
+use native.Mathlib.Omega.{arith}
+use borrow.Author.Needs.{needs}
+use lib.IntN.{pos}
+use Rattle.exact.specs.Whole.{upTo}
+use Rattle.tariff.specs.Units.{kw, price}
+use Rattle.text.specs.declared.Next.the-variants.{At}
+use Rattle.lines.specs.Line.{filled}
+use Rattle.blocks.specs.CurveLine.{afterPairs, endIn, priceIn}
+use Rattle.exact.proofs.Held.{held-is}
+use Rattle.lines.proofs.Fill.{fill-next}
+use Rattle.lines.proofs.Lines.{fields-read}
+use Rattle.blocks.proofs.CurveLines.{pairs-none, pairs-more, pairs-break, end-at, price-at}
+use Rattle.blocks.proofs.curves.pairs_at.Statement.{statement}
+use Rattle.blocks.proofs.curves.pairs_at.Tie as tie
+
+abbrev Inv-loop : tie.InvT-loop
+Inv-loop s at n ends₀ prices₀ i₀ j₀ ends prices i j =
+    (j ≤ n) × (afterPairs j s at ≡ At i)
+    × (ends ≡ filled j 12 (λ j. kw (endIn s at j)) (kw (pos 0)))
+    × (prices ≡ filled j 12 (λ j. price (priceIn s at j)) (price (pos 0)))
+
+abbrev μ-loop : tie.MeasureT-loop
+μ-loop s at n ends₀ prices₀ i₀ j₀ ends prices i j = n - j
+
+loop-holds : tie.Need-loop-holds Inv-loop μ-loop
+unfolding upTo
+loop-holds c = (search needs, pairs-none _ _, refl, refl)
+
+fields-at-requires : tie.Need-fields-at-requires Inv-loop μ-loop
+fields-at-requires c κs = search needs
+
+enum-known-next : tie.Need-enum-known-next Inv-loop μ-loop
+enum-known-next c = search needs
+
+enum-told : tie.Need-enum-told Inv-loop μ-loop
+enum-told c = search needs
+
+returns : tie.Need-returns Inv-loop μ-loop
+returns c =
+    let l = c .before .before .before .before .loop in
+    let test = c .before .before .before .loop-test .taken in
+    pairs-break _ _ _ _ (l .inv .1) _ _ test (sym (fields-read 14 2 _ _ _ refl (c .before .before .fields-at .ensures) .next) ∙ c .enum-told .given .1) refl
+
+array-copy-out-t20 : tie.Need-array-copy-out-t20 Inv-loop μ-loop
+array-copy-out-t20 c = search needs
+
+mul-ends : tie.Need-mul-ends Inv-loop μ-loop
+mul-ends c = search needs
+
+array-set-from-ends : tie.Need-array-set-from-ends Inv-loop μ-loop
+array-set-from-ends c = search needs
+
+array-copy-out-t20-2 : tie.Need-array-copy-out-t20-2 Inv-loop μ-loop
+array-copy-out-t20-2 c = search needs
+
+mul-prices : tie.Need-mul-prices Inv-loop μ-loop
+mul-prices c = search needs
+
+array-set-from-prices : tie.Need-array-set-from-prices Inv-loop μ-loop
+array-set-from-prices c = search needs
+
+add-j : tie.Need-add-j Inv-loop μ-loop
+add-j c = search needs
+
+loop-less : tie.Need-loop-less Inv-loop μ-loop
+loop-less c = search needs
+
+loop-again : tie.Need-loop-again Inv-loop μ-loop
+loop-again c =
+    let l = c .before .before .before .before .before .before .before .before .loop in
+    let r = fields-read 14 2 _ _ _ refl (c .before .before .before .before .before .before .fields-at .ensures) in
+    let few : l .j < 12 = omega arith in
+    let a = c .before .before .before .before .before .before .before .before .before .before .args in (
+      omega arith,
+      pairs-more _ _ _ _ (l .inv .1) ∙ sym (r .next) ∙ c .before .before .before .before .next .given .1,
+      fill-next (λ j. kw (endIn (a .s .now) (a .at) j)) (kw (pos 0)) (l .j) 12 few (l .inv .2)
+          (ap kw (held-is _ _ (c .before .t20 .given) (r .values 0 (omega arith) ∙ sym (end-at _ _ _ _ (l .inv .1))))),
+      fill-next (λ j. price (priceIn (a .s .now) (a .at) j)) (price (pos 0)) (l .j) 12 few (l .inv .3)
+          (ap price (held-is _ _ (c .t202 .given) (r .values 1 (omega arith) ∙ sym (price-at _ _ _ _ (l .inv .1))))),
+    )
+
+returns-2 : tie.Need-returns-2 Inv-loop μ-loop
+returns-2 c =
+    let l = c .before .loop in
+    let last : l .j ≡ c .before .before .before .args .n = omega arith in
+    record {
+      next = rw (← last) (sym (l .inv .1));
+      ends = λ k e. rw (← last) (l .inv .2);
+      prices = λ k e. rw (← last) (l .inv .3);
+    }
+
+pub pairs-at-spec : {M : Type 1} → statement M
+pairs-at-spec =
+    tie.close
+    (tie.spec
+    Inv-loop
+    μ-loop
+    loop-holds
+    fields-at-requires
+    enum-known-next
+    enum-told
+    returns
+    array-copy-out-t20
+    mul-ends
+    array-set-from-ends
+    array-copy-out-t20-2
+    mul-prices
+    array-set-from-prices
+    add-j
+    loop-less
+    loop-again
+    returns-2)

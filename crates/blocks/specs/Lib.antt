@@ -1,0 +1,3 @@
+-- An hour block: its curve lines, its interval lines, and the record that it is read to.
+pub mod CurveLine
+pub mod Block

@@ -1,0 +1,107 @@
+// A curve line, read into its curve: the start, the count, and that many pairs.
+ghost use mathlib.Core.Path.{_≡_};
+ghost use Prim.Native.Nat.{_+_, _≤_};
+ghost use Rattle.blocks.specs.CurveLine.{countOf, noLine, PairsRead, CurveReadAt};
+use tariff::Curve;
+use tariff::Kw;
+use tariff::Price;
+use text::Next;
+
+// The pairs of a curve line, and the place after them.
+pub struct Pairs {
+    pub next: Next,
+    pub to: [Kw; 12],
+    pub at: [Price; 12],
+}
+
+pub struct CurveRead {
+    pub next: Next,
+    pub curve: Curve,
+}
+
+pub fn pairs_at(s: &[u8], at: usize, n: usize) -> Pairs
+    requires { ⌜ n ≤ 12 ⌝ }
+    ensures { λ r. ⌜ PairsRead n (now (s .entry)) at r ⌝ }
+{
+    let mut ends = [Kw(0); 12];
+    let mut prices = [Price(0); 12];
+    let mut i = at;
+    let mut j: usize = 0;
+    while j < n {
+        let pair = lines::fields_at(s, i, 14, 2);
+        let next = pair.next;
+        let Next::At(after) = next else {
+            return Pairs {
+                next: Next::Wrong,
+                to: ends,
+                at: prices,
+            };
+        };
+        let v = pair.values;
+        ends[j] = Kw(v[0]);
+        prices[j] = Price(v[1]);
+        i = after;
+        j += 1;
+    }
+    Pairs {
+        next: Next::At(i),
+        to: ends,
+        at: prices,
+    }
+}
+
+// The count of a curve line, 0 to 12, or 13 for any other number.
+pub fn count_of(n: i64) -> usize
+    ensures { λ r. ⌜ r ≡ countOf n ⌝ }
+{
+    if n < 0 {
+        return 13;
+    }
+    if 12 < n { 13 } else { n as usize }
+}
+
+// The curve line at a place, from key `first` on.
+pub fn curve_at(s: &[u8], at: usize, first: usize) -> CurveRead
+    requires { ⌜ first + 2 ≤ 58 ⌝ }
+    ensures { λ r. ⌜ CurveReadAt first (now (s .entry)) at r ⌝ }
+{
+    let head = lines::fields_at(s, at, first, 2);
+    let v = head.values;
+    let start = Kw(v[0]);
+    let n = count_of(v[1]);
+    let next = head.next;
+    let Next::At(i) = next else {
+        return no_curve(start);
+    };
+    if 12 < n {
+        return no_curve(start);
+    }
+    let pairs = pairs_at(s, i, n);
+    let after = pairs.next;
+    let to = pairs.to;
+    let prices = pairs.at;
+    CurveRead {
+        next: lines::line_end(s, after),
+        curve: Curve {
+            start,
+            n,
+            to,
+            at: prices,
+        },
+    }
+}
+
+// A curve line that is not as printed: no steps go with it.
+pub fn no_curve(start: Kw) -> CurveRead
+    ensures { λ r. ⌜ r ≡ noLine start ⌝ }
+{
+    CurveRead {
+        next: Next::Wrong,
+        curve: Curve {
+            start,
+            n: 0,
+            to: [Kw(0); 12],
+            at: [Price(0); 12],
+        },
+    }
+}

@@ -1,0 +1,78 @@
+-- `curtailed::seconds_fault` meets its contract. The loop's invariant: the sum is that of the intervals passed, each at most 900.
+use mathlib.Core.Path.{_≡_, sym, _∙_}
+use Prim.Native.Nat.{ℕ, _-_, _<_, _≤_}
+use native.Mathlib.Omega.{arith}
+use lib.ListN.{getD}
+use lib.IntN.{ℤ}
+use Rattle.exact.specs.Whole.{Within, sumTo}
+use Rattle.exact.proofs.Sums.{sum-none, sum-more}
+use Rattle.tariff.specs.declared.ImportHour.{ImportHour}
+use Rattle.tariff.specs.Reply.{clear}
+use Rattle.tariff.specs.Import.{blankCurtailed, curtailed, importRange, importSeconds}
+use Rattle.tariff.proofs.ImportRanges.{import-form-says, import-range-says}
+use Rattle.checks.proofs.Seconds.{one-more-fits}
+use Rattle.checks.proofs.curtailed.seconds_fault.Statement.{statement}
+use Rattle.checks.proofs.curtailed.seconds_fault.Tie as tie
+
+abbrev secondsOf : ImportHour → ℕ → ℤ
+secondsOf h k = curtailed h k .s .0
+
+each-fits : (h : ImportHour) → importRange h ≡ clear → (k : ℕ) → k < h .n → Within 900 (secondsOf h k)
+each-fits h e k u = import-range-says h e .1 k u .s
+
+abbrev Inv-loop : tie.InvT-loop
+Inv-loop n iv sum₀ i₀ sum i = (i ≤ n) × (sum .0 ≡ sumTo (λ k. getD iv k blankCurtailed .s .0) i)
+
+abbrev μ-loop : tie.MeasureT-loop
+μ-loop n iv sum₀ i₀ sum i = n - i
+
+loop-holds : tie.Need-loop-holds Inv-loop μ-loop
+loop-holds c = (omega arith, sym (sum-none (secondsOf (c .before .args .h))))
+
+-- the loop goes over at most 30 intervals
+small : (c : tie.In-loop Inv-loop μ-loop) → c .before .loop .i < 30
+small c = let s = c .before .before .before in omega (arith, import-form-says (s .args .h) (s .pre .0))
+
+mul-v : tie.Need-mul-v Inv-loop μ-loop
+mul-v c = omega (arith, small c)
+
+array-copy-out-v : tie.Need-array-copy-out-v Inv-loop μ-loop
+array-copy-out-v c = small c
+
+seconds-plus-requires : tie.Need-seconds-plus-requires Inv-loop μ-loop
+seconds-plus-requires c κs =
+    let s = c .before .before .before .before in
+    let l = c .before .before .loop in
+    let h = s .args .h in
+    one-more-fits (secondsOf h) (h .n) (l .i) _ (import-form-says h (s .pre .0)) (each-fits h (s .pre .1)) (omega arith) (l .inv .1)
+
+add-i : tie.Need-add-i Inv-loop μ-loop
+add-i c = omega (arith, small (c .before .before))
+
+loop-again : tie.Need-loop-again Inv-loop μ-loop
+loop-again c =
+    let l = c .before .before .before .loop in
+    (omega arith, c .seconds-plus .ensures ∙ rw (sum-more (secondsOf (c .before .before .before .before .before .args .h)) (l .i), l .inv .1))
+
+returns : tie.Need-returns Inv-loop μ-loop
+unfolding importSeconds
+returns c =
+    let l = c .before .before .loop in
+    let all : l .i ≡ c .before .before .before .before .args .h .n = omega arith in
+    rw (← all, ← l .inv .1) (c .sum-fault .ensures)
+
+pub seconds-fault-spec : {M : Type 1} → statement M
+seconds-fault-spec =
+    tie.close
+    (tie.spec
+    Inv-loop
+    μ-loop
+    loop-holds
+    mul-v
+    array-copy-out-v
+    seconds-plus-requires
+    add-i
+    (λ c. omega arith)
+    loop-again
+    (λ c κs. tt)
+    returns)

@@ -1,0 +1,61 @@
+-- What a proof by computation opens: the reading of a block and of a header, and the checks of an hour and what its intervals contribute.
+use mathlib.Core.Bool.{false}
+use mathlib.Core.List.{List}
+use Prim.Native.Nat.{ℕ}
+use lib.IntN.{ℤ}
+use Rattle.exact.specs.Whole.{span, minℤ, maxℤ, upTo, sumTo}
+use Rattle.tariff.specs.declared.Curve.{Curve}
+use Rattle.tariff.specs.declared.Hour.{Hour}
+use Rattle.tariff.specs.declared.Expected.the-variants.{Any}
+use Rattle.tariff.specs.Units.{centsOf}
+use Rattle.tariff.specs.Sheet.{allTo, aheadInRange, curveInRange, intervalInRange, curveKeeps}
+use Rattle.tariff.specs.Curve.{Amount, quoteFrom, quote, sumUp, integral}
+use Rattle.tariff.specs.Reply.{Reply, Verdict, firstOf}
+use Rattle.tariff.specs.Derate.{exceedsRoom, reduced}
+use Rattle.tariff.specs.Contributions.{lowerLimit, upperLimit, energy, reserve, regulation, movement, otherThanEnergy}
+use Rattle.tariff.specs.Hour.{blockFault, form, range, order, curves, secondsSum, outcome, outcomeAt, intervals, contribution, hourSum, reply}
+use Rattle.tariff.specs.Eligible.{someTo, excluded}
+use Rattle.marks.specs.Word.{word}
+use Rattle.text.specs.Text.{keyAt}
+use Rattle.text.specs.Number.{digitAt, moreDigits, naturalAt, numberAt}
+use Rattle.lines.specs.Line.{valueAt, fieldAt, afterFields, valueIn, lineAt, closes}
+use Rattle.lines.specs.Cut.{emptyIn, behind}
+use Rattle.lines.specs.Pieces.{restAfter, firstPiece, piece}
+use Rattle.lines.specs.Rows.{rowPlace, rowIn, rowsAt}
+use Rattle.blocks.specs.CurveLine.{afterPairs, endIn, priceIn, curveLine, curveOf}
+use Rattle.blocks.specs.Block.{Block, blockAt, blockOf}
+use Rattle.header.specs.Header.{digitsAt, rowAt, headerLine, linePlace, numberOn, digitOn, headerForm, headerInRange, headerRange, headerFault, rowWord, marksOf}
+
+unfoldable pub reading : List ℕ → Block
+unfolding
+    blockOf blockAt rowsAt rowIn rowPlace curveOf curveLine priceIn endIn afterPairs closes lineAt valueIn afterFields fieldAt valueAt keyAt
+    numberAt naturalAt moreDigits digitAt upTo
+reading s = blockOf s
+
+-- its pieces
+unfoldable pub cutting : List ℕ → List ℕ
+unfolding restAfter behind emptyIn firstPiece
+cutting s = piece 0 s
+
+-- the header and its marks
+unfoldable pub judging : List ℕ → Verdict
+unfolding
+    headerForm headerRange headerInRange numberOn digitOn rowWord marksOf linePlace headerLine rowAt digitsAt lineAt valueIn afterFields fieldAt
+    valueAt keyAt numberAt naturalAt moreDigits digitAt allTo firstOf upTo word excluded someTo
+judging s = headerFault 1 s
+
+-- what an interval must price, and at what price
+unfoldable pub pricing : Curve → ℤ → Amount
+unfolding exceedsRoom reduced lowerLimit upperLimit minℤ maxℤ quote quoteFrom
+pricing c k = quote c k
+
+-- checks 1 to 5
+unfoldable pub checking : Hour → Verdict
+unfolding form range aheadInRange curveInRange intervalInRange allTo firstOf order curves curveKeeps secondsSum sumTo
+checking h = blockFault h Any
+
+unfoldable pub settling : Hour → Reply
+unfolding
+    checking pricing outcome energy integral span sumUp otherThanEnergy regulation reserve movement outcomeAt intervals contribution hourSum
+    sumTo centsOf reply
+settling h = reply h false Any 30

@@ -1,0 +1,6 @@
+-- Laws that the proofs of the crate's functions cite; `Sheets` is for callers, and `Unique` has the law of the public one.
+pub mod Gaps
+pub mod Fives
+pub mod Derates
+pub mod Sheets
+pub mod Unique

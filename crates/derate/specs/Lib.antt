@@ -1,0 +1,3 @@
+-- What the functions of this crate promise.
+pub mod Five
+pub mod Derated

@@ -1,0 +1,41 @@
+-- `blocks::settle_place` meets its contract: the block is lent from its place to the sheet's end, and the row has room for 30.
+use borrow.Author.Needs.{needs}
+use Rattle.ledger.proofs.Walks.{lent-reply}
+use Rattle.ledger.proofs.hours.settle_place.Statement.{statement}
+use Rattle.ledger.proofs.hours.settle_place.Tie as tie
+
+sub-block : tie.Need-sub-block
+sub-block c = search needs
+
+part-block-start : tie.Need-part-block-start
+part-block-start c = search needs
+
+part-block-end : tie.Need-part-block-end
+part-block-end c = search needs
+
+cast-hour : tie.Need-cast-hour
+cast-hour c = search needs
+
+slice-aggregate-settle-block : tie.Need-slice-aggregate-settle-block
+slice-aggregate-settle-block c = search needs
+
+settle-block-requires : tie.Need-settle-block-requires
+settle-block-requires c κs = search needs
+
+returns : tie.Need-returns
+returns c =
+    let b = c .before .before .before .before .before in
+    let a = b .args in
+    lent-reply (a .s .now) (a .at) (a .k) (a .excluded) (c .before .settle-block .result) (b .pre .1) (c .before .settle-block .ensures .0)
+
+pub settle-place-spec : {M : Type 1} → statement M
+settle-place-spec =
+    tie.close
+    (tie.spec
+    sub-block
+    part-block-start
+    part-block-end
+    cast-hour
+    slice-aggregate-settle-block
+    settle-block-requires
+    returns)

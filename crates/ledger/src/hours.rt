@@ -1,0 +1,76 @@
+// The blocks of a day, one after the other.
+ghost use mathlib.Core.Path.{_≡_};
+ghost use Prim.Native.Nat.{_<_, _≤_};
+ghost use lib.IntN.{pos};
+ghost use lib.ListN.{length, drop};
+ghost use Rattle.tariff.specs.Reply.{told};
+ghost use Rattle.tariff.specs.declared.Expected.the-variants.{Says};
+ghost use Rattle.blocks.specs.Block.{blockOf};
+ghost use Rattle.sheet.specs.Settle.{replyTo};
+ghost use Rattle.tariff.specs.Total.{toldTotal};
+ghost use Rattle.ledger.specs.Walk.{Rounded, UpToCents, Added, SettledTo};
+use tariff::Answer;
+use tariff::Cents;
+use tariff::Check;
+use tariff::Expected;
+use tariff::Place;
+use tariff::Total;
+
+// The answers of a day's blocks, and their total.
+pub struct Settled {
+    pub hours: [Place; 24],
+    pub total: Total,
+}
+
+// The block that begins at a place and has to say hour k.
+pub fn settle_place(s: &[u8], at: usize, excluded: bool, k: usize) -> Answer
+    requires { ⌜ (at ≤ length (now s)) × (k < 24) ⌝ }
+    ensures { λ r. ⌜ told r ≡ replyTo (blockOf (drop at (now (s .entry)))) excluded (Says (pos k)) 30 ⌝ }
+{
+    let mut row = [0i64; 30];
+    let block = &s[at..];
+    let hour = k as i64;
+    sheet::settle_block(block, excluded, Expected::Says(hour), &mut row)
+}
+
+// A total with one answer more: 24 hours of 2,600,000,000,000 cents and no more are summed.
+pub fn add(total: Total, answer: Answer) -> Total
+    requires { ⌜ UpToCents 62400000000000 (toldTotal total) × Rounded (told answer) ⌝ }
+    ensures { λ r. ⌜ Added (toldTotal total) (told answer) (toldTotal r) ⌝ }
+{
+    match total {
+        Total::Withheld => Total::Withheld,
+        Total::Of(sum) => match answer {
+            Answer::Refused(_) => Total::Withheld,
+            Answer::Paid(_, cents) => Total::Of(Cents(sum.0 + cents.0)),
+        },
+    }
+}
+
+// The answers of the first `hours` blocks from a place on, and their total, withheld where bytes follow.
+pub fn settle_hours(s: &[u8], at: usize, excluded: u32, hours: usize) -> Settled
+    requires { ⌜ (at ≤ length (now s)) × (hours ≤ 24) ⌝ }
+    ensures { λ r. ⌜ SettledTo excluded (drop at (now (s .entry))) hours r ⌝ }
+{
+    let mut places = [Place {
+        answer: Answer::Refused(Check::Form(1)),
+    }; 24];
+    let mut total = Total::Of(Cents(0));
+    let mut i = at;
+    let mut k: usize = 0;
+    while k < hours {
+        let hour = k as u32;
+        let answer = settle_place(s, i, marks::is_marked(excluded, hour), k);
+        places[k] = Place { answer };
+        total = add(total, answer);
+        i = lines::piece_after(s, i);
+        k += 1;
+    }
+    if i < s.len() {
+        total = Total::Withheld;
+    }
+    Settled {
+        hours: places,
+        total,
+    }
+}

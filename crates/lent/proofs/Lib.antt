@@ -1,0 +1,3 @@
+-- The laws of the row, and of the public function.
+pub mod Rows
+pub mod Unique

@@ -1,0 +1,66 @@
+-- `put` stores byte after byte. The loop's invariant: the first i bytes of the text are written.
+use Prim.Native.Nat.{_-_}
+use native.Mathlib.Omega.{arith}
+use borrow.Author.Needs.{needs}
+use lib.ListN.{length, take}
+use Rattle.page.specs.Page.{Put}
+use Rattle.page.proofs.Pages.{put-none, put-length, put-byte, put-up-to-end, put-whole}
+use Rattle.page.proofs.put.Statement.{statement}
+use Rattle.page.proofs.put.Tie as tie
+
+abbrev Inv-loop : tie.InvT-loop
+Inv-loop row₀ at text next₀ i₀ row next i = Put row₀ at (take i text) row next
+
+abbrev μ-loop : tie.MeasureT-loop
+μ-loop row₀ at text next₀ i₀ row next i = length text - i
+
+loop-holds : tie.Need-loop-holds Inv-loop μ-loop
+loop-holds c = put-none (c .args .row .now) (c .args .at)
+
+same-length : tie.Need-same-length Inv-loop μ-loop
+same-length c = put-length (c .before .before .loop .inv)
+
+returns : tie.Need-returns Inv-loop μ-loop
+returns c = let l = c .before .before .loop in put-up-to-end _ (l .i) (l .inv) (omega arith)
+
+shared-slice-read-row : tie.Need-shared-slice-read-row Inv-loop μ-loop
+shared-slice-read-row c = search needs
+
+slice-write-row : tie.Need-slice-write-row Inv-loop μ-loop
+slice-write-row c = search needs
+
+add-next : tie.Need-add-next Inv-loop μ-loop
+add-next c = let e = put-length (c .before .before .before .loop .inv) in search (needs, e)
+
+add-i : tie.Need-add-i Inv-loop μ-loop
+add-i c = search needs
+
+loop-less : tie.Need-loop-less Inv-loop μ-loop
+loop-less c = search needs
+
+loop-again : tie.Need-loop-again Inv-loop μ-loop
+loop-again c = let l = c .before .before .before .loop in put-byte _ (l .i) (l .inv) (omega arith) (omega arith)
+
+same-length-2 : tie.Need-same-length-2 Inv-loop μ-loop
+same-length-2 c = put-length (c .before .loop .inv)
+
+returns-2 : tie.Need-returns-2 Inv-loop μ-loop
+returns-2 c = let l = c .before .loop in put-whole _ (l .i) (l .inv) (c .loop-test .left)
+
+pub put-spec : {M : Type 1} → statement M
+put-spec =
+    tie.close
+    (tie.spec
+    Inv-loop
+    μ-loop
+    loop-holds
+    same-length
+    returns
+    shared-slice-read-row
+    slice-write-row
+    add-next
+    add-i
+    loop-less
+    loop-again
+    same-length-2
+    returns-2)

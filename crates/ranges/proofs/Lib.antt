@@ -1,0 +1,3 @@
+-- The laws of a curve's steps, and of the public functions.
+pub mod Steps
+pub mod Unique

@@ -1,0 +1,34 @@
+-- No two different replies satisfy the contract of a public function.
+use Rattle.exact.proofs.Unique.{one, OneReply}
+use Rattle.ranges.proofs.is_seconds.Reads as is-seconds
+use Rattle.ranges.proofs.is_hour.Reads as is-hour
+use Rattle.ranges.proofs.is_capacity.Reads as is-capacity
+use Rattle.ranges.proofs.is_price.Reads as is-price
+use Rattle.ranges.proofs.is_mark.Reads as is-mark
+use Rattle.ranges.proofs.ahead_in_range.Reads as ahead-in-range
+use Rattle.ranges.proofs.curve_in_range.Reads as curve-in-range
+use Rattle.ranges.proofs.interval_in_range.Reads as interval-in-range
+
+pub one-is-seconds : OneReply is-seconds.Post
+one-is-seconds κ a r s u v p q = one r s p q
+
+pub one-is-hour : OneReply is-hour.Post
+one-is-hour κ a r s u v p q = one r s p q
+
+pub one-is-capacity : OneReply is-capacity.Post
+one-is-capacity κ a r s u v p q = one r s p q
+
+pub one-is-price : OneReply is-price.Post
+one-is-price κ a r s u v p q = one r s p q
+
+pub one-is-mark : OneReply is-mark.Post
+one-is-mark κ a r s u v p q = one r s p q
+
+pub one-ahead-in-range : OneReply ahead-in-range.Post
+one-ahead-in-range κ a r s u v p q = one r s p q
+
+pub one-curve-in-range : OneReply curve-in-range.Post
+one-curve-in-range κ a r s u v p q = one r s p q
+
+pub one-interval-in-range : OneReply interval-in-range.Post
+one-interval-in-range κ a r s u v p q = one r s p q

@@ -1,0 +1,2 @@
+-- What the numbers of a line say.
+pub mod Records

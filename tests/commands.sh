@@ -1,0 +1,99 @@
+#!/bin/sh
+# The commands of docs/answers.md, as they stand there: each block behind
+# <!-- run --> is run in the repository, with the programs on the path, and has to
+# print the block behind <!-- prints -->, where ` ...` leaves out a line's rest.
+#
+#   sh commands.sh PATH-OF-HOUR PATH-OF-DAY PATH-OF-IMPORT
+#
+# The command for the rows that exclude an hour is then tried on every hour of
+# other headers, against what the program pays. The last line counts what passed
+# and what failed; the status is 1 if anything failed.
+. "$(dirname -- "$0")/common.sh"
+
+[ $# -eq 3 ] || usage "commands.sh PATH-OF-HOUR PATH-OF-DAY PATH-OF-IMPORT"
+need "$@"
+work_in commands
+work=$(cd "$work" && pwd) || exit 2
+root=$(cd "$(dirname -- "$0")/.." && pwd) || exit 2
+page=$root/docs/answers.md
+
+mkdir "$work/bin" && cp "$1" "$work/bin/hour" && cp "$2" "$work/bin/day" && cp "$3" "$work/bin/import" || exit 2
+PATH=$work/bin:$PATH
+cd "$root" || exit 2
+
+# --- The page's commands, run.N, and what they print, prints.N.
+awk -v dir="$work" '
+/^<!-- run -->/ { file = dir "/run." ++n; next }
+/^<!-- prints -->/ { file = dir "/prints." n; next }
+/^```/ { inside = file != "" && !inside; if (inside) printf "" >file; else file = ""; next }
+inside { print >file }
+END { print n + 0 >(dir "/count") }' "$page"
+count=$(cat "$work/count")
+[ "$count" -gt 0 ] || fail "the page has no commands"
+
+# Each line of $work/got is that of the file, or begins with it.
+is_printed() {
+    awk 'NR == FNR { want[++n] = $0; next }
+        { rest = sub(/ \.\.\.$/, " ", want[++m]); if (rest ? index($0, want[m]) != 1 : $0 != want[m]) exit 1 }
+        END { if (n != m) exit 1 }' "$1" "$work/got"
+}
+
+n=1
+while [ "$n" -le "$count" ]; do
+    (within 20 sh -e "$work/run.$n") >"$work/got" 2>"$work/err"
+    status=$?
+    if [ "$status" -gt 1 ] || [ -s "$work/err" ]; then
+        fail "command $n: status $status, $(head -n 1 "$work/err")"
+    elif [ ! -s "$work/prints.$n" ] || ! is_printed "$work/prints.$n"; then
+        fail "command $n: $(differ "$work/got" "$work/prints.$n")"
+    else
+        pass
+    fi
+    n=$((n + 1))
+done
+
+# --- Which hours are excluded: the command that reads `rtc`, and the program, on
+# a day that pays in every hour. A mark at each hour, one row after the other.
+excluding=$(grep -l 'rtc' "$work"/run.*)
+[ -n "$excluding" ] || fail "the page has no command for an excluded hour"
+
+# The sample's header with digit $2 of its row $1, from 0, as $3, rtc as $4, and
+# all else such that every hour is eligible.
+marked() {
+    awk -F= -v row="$1" -v at="$2" -v digit="$3" -v rtc="$4" '
+        $1 == "rtc" { print "rtc=" rtc; next }
+        $1 ~ /^(cat|x[1-6])$/ {
+            all = $1 == "cat" ? "111111111111111111111111" : "000000000000000000000000"
+            if ($1 == row) all = substr(all, 1, at) digit substr(all, at + 2)
+            print $1 "=" all
+            next
+        }
+        { print }' samples/day/gap-last.txt | awk '$0 == "" && before == "" { next } { before = $0; print }'
+}
+
+# The hours that the command excludes in $work/sheet, and those that pay 0.
+same_hours() {
+    h=0
+    while [ "$h" -lt 24 ]; do
+        sed "s/-v hour=[0-9]*/-v hour=$h/; s|samples/day/mixed.txt|$work/sheet|" "$excluding" >"$work/command"
+        [ -z "$(sh "$work/command")" ] || echo "hour=$h pay=0"
+        h=$((h + 1))
+    done >"$work/want"
+    day <"$work/sheet" | grep ' pay=0$' >"$work/got"
+    if cmp -s "$work/got" "$work/want"; then pass; else fail "$1: $(differ "$work/got" "$work/want")"; fi
+}
+
+for row in cat x1 x2 x3 x4 x5 x6; do
+    for at in 0 1 2 11 21 22 23; do
+        digit=1
+        [ "$row" = cat ] && digit=0
+        marked "$row" "$at" "$digit" 1 >"$work/sheet"
+        same_hours "$row at hour $at"
+    done
+done
+for row in x4 x5 x6; do
+    marked "$row" 12 1 0 >"$work/sheet"
+    same_hours "$row at hour 12 with rtc=0"
+done
+
+finish

@@ -1,0 +1,167 @@
+#!/bin/sh
+# A month of sheets, by the commands that README has: they are taken out of it,
+# and run in the home of a user who has installed the programs as it says.
+#
+#   sh month.sh PATH-OF-HOUR PATH-OF-DAY PATH-OF-IMPORT
+#
+# Each way of running them, on this machine and by GNU parallel, goes through
+# corrected and added sheets, answers that are cut or gone, runs that are killed
+# and programs that are missing or fail. Where GNU parallel is not to be found,
+# its cases are skipped, and that is said. The last line counts what passed and
+# what failed; the status is 1 if anything failed.
+. "$(dirname -- "$0")/common.sh"
+
+[ $# -eq 3 ] || usage "month.sh PATH-OF-HOUR PATH-OF-DAY PATH-OF-IMPORT"
+need "$@" setsid
+work_in month
+work=$(cd "$work" && pwd) || exit 2
+root=$(cd "$(dirname -- "$0")/.." && pwd) || exit 2
+clone=$work/clone
+home=$work/home
+user=$work/user
+samples=$root/samples
+
+# --- What README says.
+
+# The commands of README's section with this heading.
+commands() {
+    awk -v heading="## $1" '/^## / { inside = $0 == heading } inside && /^    / { print substr($0, 5) }' "$root/README.md"
+}
+
+# That one of the month's commands which has the first words and not the second.
+command_with() {
+    commands "A month of sheets" | grep -e "^$1" | grep -v -e "$2"
+}
+
+install=$(commands "Install" | grep -v '^rt ')
+here=$(command_with 'settle day sheets' parallel)
+there=$(command_with 'settle day sheets parallel --sshloginfile nodes' none)
+imports=$(command_with 'settle import imports' none)
+totals=$(command_with 'grep -rL' none)
+refusals=$(command_with 'grep -rH' none)
+for found in "$install" "$here" "$there" "$imports" "$totals" "$refusals"; do
+    if [ -z "$found" ]; then
+        fail "README has not the commands that are tested here"
+        finish
+        exit
+    fi
+done
+
+# --- The user: programs as installed from a clone that is gone, and sheets.
+
+mkdir -p "$clone/target/bin" "$clone/tools" "$home" "$user" || exit 2
+cp "$1" "$clone/target/bin/hour" && cp "$2" "$clone/target/bin/day" && cp "$3" "$clone/target/bin/import" &&
+    cp "$root/tools/settle" "$clone/tools" || exit 2
+if (cd "$clone" && HOME=$home && export HOME && sh -e -c "$install") 2>"$work/err"; then
+    pass
+else
+    fail "install: $(head -n 1 "$work/err")"
+fi
+rm -rf "$clone"
+# The folder that README puts on the path.
+bin=$(HOME=$home && eval "$(echo "$install" | grep '^PATH=')" && echo "${PATH%%:*}")
+cp -p "$bin/day" "$work/day" || exit 2
+
+# Runs a command as the user does, and keeps its status.
+as_user() {
+    (cd "$user" && HOME=$home PATH=$bin:$PATH within 60 sh -c "$1") >"$work/out" 2>"$work/err"
+    status=$?
+}
+
+# A sheet of the user's, and the answer that it has to have in the end.
+put() {
+    cp "$samples/day/$2.txt" "$user/sheets/$1.txt"
+    cp "$samples/day/$2.out" "$work/want/$1"
+}
+
+# Three sheets without answers.
+fresh() {
+    rm -rf "$user/sheets" "$work/want"
+    mkdir -p "$user/sheets/other units" "$work/want/other units"
+    put 4711-01 paid
+    put 4711-02 header-range
+    put "other units/it's 12" mixed
+}
+
+# --- How a run is judged.
+
+# Each answer is right, and nothing else lies about.
+all_answered() {
+    (cd "$work/want" && find . -type f) | while IFS= read -r name; do
+        cmp -s "$work/want/$name" "$user/sheets/$name.out" || echo "$name has not its answer"
+    done
+    find "$user/sheets" -type f ! -name '*.txt' ! -name '*.out' | sed 's/$/ is left/'
+}
+
+# The run has the status $2; it has settled the sheets $3.. and no other.
+settled() {
+    what=$1
+    wanted=$2
+    shift 2
+    : >"$work/listed"
+    for name in "$@"; do echo "sheets/$name.txt"; done | sort >"$work/listed"
+    sort "$work/out" >"$work/got"
+    wrong=$(all_answered | head -n 1)
+    if [ "$status" -ne "$wanted" ]; then
+        fail "$what: status $status, $(tail -n 1 "$work/err")"
+    elif ! cmp -s "$work/got" "$work/listed"; then
+        fail "$what: $(differ "$work/got" "$work/listed")"
+    elif [ -n "$wrong" ]; then
+        fail "$what: $wrong"
+    else
+        pass
+    fi
+}
+
+# The run has failed and said so, naming $2; these sheets have no answer.
+not_settled() {
+    what=$1
+    named=$2
+    shift 2
+    if [ "$status" -eq 0 ]; then
+        fail "$what: status 0"
+    elif ! grep -q -F -e "$named" "$work/err"; then
+        fail "$what: nothing is said of $named"
+    elif find "$user/sheets" -name '*.new.*' | grep -q .; then
+        fail "$what: a half answer is left"
+    else
+        for name in "$@"; do
+            if [ -e "$user/sheets/$name.out" ]; then
+                fail "$what: $name has an answer"
+                return
+            fi
+        done
+        pass
+    fi
+}
+
+. "$root/tests/month/cases.sh"
+
+# --- The ways.
+
+about="one machine: "
+way=$here
+all_cases
+
+if command -v parallel >/dev/null; then
+    mkdir -p "$home/.parallel"
+    : >"$home/.parallel/will-cite"
+    about="GNU parallel, this machine: "
+    way=$there
+    echo : >"$user/nodes"
+    all_cases
+    if command -v rsync >/dev/null; then
+        about="GNU parallel, other machines: "
+        stand_in_ssh
+        printf '%s\n' "1/$work/ssh alpha" "1/$work/ssh beta" >"$user/nodes"
+        all_cases
+    else
+        echo "skipped: no rsync, so GNU parallel has no other machines"
+    fi
+else
+    echo "skipped: no GNU parallel, so its cases were not run"
+fi
+
+about=
+other_commands
+finish

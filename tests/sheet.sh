@@ -1,0 +1,218 @@
+#!/bin/sh
+# The sheet's page, docs/sheet.md, against the reader: its listings have the
+# answers that stand beside them, its tables have the reader's keys in the
+# reader's order, and every range is the reader's on both sides.
+#
+#   sh sheet.sh PATH-OF-HOUR PATH-OF-DAY PATH-OF-IMPORT
+#
+# What the page says of itself, each before a fenced block or a table:
+#   <!-- listing: NAME -->                    a text, or a part of one
+#   <!-- answer: PROGRAM NAME [NAME] -->      what is printed for it: for the
+#       first name alone, or for it and 24 times the second, saying hours 0 to
+#       23. `...` stands for any lines.
+#   <!-- keys: NAME lines A to B, keys K.. -->   the rows are the reader's keys
+#       with these numbers, and stand on these lines of the listing. K=L is a row
+#       for both.
+# The last line counts what passed and what failed; the status is 1 if anything
+# failed.
+. "$(dirname -- "$0")/common.sh"
+
+[ $# -eq 3 ] || usage "sheet.sh PATH-OF-HOUR PATH-OF-DAY PATH-OF-IMPORT"
+need "$@"
+work_in sheet
+hour=$1
+day=$2
+import=$3
+root=$(dirname -- "$0")/..
+page=$root/docs/sheet.md
+
+# --- The page in pieces: listing.NAME, answer.N with its words in answers, and
+# rows: the table's number, listing, first and last line, key, unit, range.
+: >"$work/answers"
+: >"$work/rows"
+: >"$work/numbers"
+awk -v dir="$work" '
+/^<!-- listing: / { file = dir "/listing." $3; next }
+/^<!-- answer: / { file = dir "/answer." ++n; print n, $3, $4, $5 == "-->" ? "" : $5 >(dir "/answers"); next }
+/^<!-- keys: / {
+    name = $3; from = $5; to = $7 + 0; table = 1
+    for (i = 9; $i != "-->"; i++) print $i >(dir "/numbers")
+    next
+}
+/^```/ { inside = file != "" && !inside; if (inside) printf "" >file; else { if (file != "") close(file); file = "" } next }
+inside { print >file; next }
+table && /^\| `/ {
+    gsub(/`/, "")
+    split($0, cells, / *\| */)
+    print name, from, to, cells[2] "\t" cells[4] "\t" cells[5] >(dir "/rows")
+    next
+}
+table && !/^\|/ { table = 0 }' "$page"
+[ -s "$work/answers" ] && [ -s "$work/rows" ] || fail "the page has no listings or no tables"
+
+# --- Texts of the listings.
+
+# A part, and 24 blocks like the other one, in $work/text.
+with_blocks() {
+    cat "$1"
+    awk '{ line[NR] = $0 } END {
+        for (hour = 0; hour < 24; hour++) {
+            if (hour) print ""
+            for (i = 1; i <= NR; i++) { if (i == 1) sub(/^hour=[^ ]*/, "hour=" hour, line[i]); print line[i] }
+        }
+    }' "$2"
+}
+
+# Runs the program of this name on $work/text.
+run() {
+    case $1 in
+        hour) program=$hour ;;
+        day) program=$day ;;
+        import) program=$import ;;
+    esac
+    within 20 "$program" <"$work/text" >"$work/got" 2>"$work/err"
+}
+
+# The answer in $work/got begins, goes on and ends as the file $1 does.
+is_answer() {
+    awk 'NR == FNR { want[++n] = $0; next } { got[++m] = $0 }
+        END {
+            i = 1
+            for (j = 1; j <= m; j++) {
+                if (want[i] == "..." && got[j] == want[i + 1]) i++
+                if (want[i] == got[j]) i++
+                else if (want[i] != "...") exit 1
+            }
+            exit i != n + 1
+        }' "$1" "$work/got"
+}
+
+while read -r n program first blocks; do
+    if [ -n "$blocks" ]; then
+        with_blocks "$work/listing.$first" "$work/listing.$blocks" >"$work/text"
+    else
+        cp "$work/listing.$first" "$work/text"
+    fi
+    run "$program"
+    if is_answer "$work/answer.$n"; then
+        pass
+    else
+        fail "$program, $first $blocks: $(differ "$work/got" "$work/answer.$n")"
+    fi
+done <"$work/answers"
+
+# --- The keys: number and key of the reader's table, the numbers of the page's
+# rows, and the page's keys in their order.
+cat "$root"/crates/*/src/*.rt | sed -n 's/^ *\([0-9_]*\) => .*key_at(.*b" *\([a-z0-9]*\)=").*/\1 \2/p' |
+    awk '{ number = $1 == "_" ? last + 1 : $1; last = number; print number, $2 }' | sort -n >"$work/reader"
+if [ "$(awk '$1 != NR - 1' "$work/reader" | wc -l)" -ne 0 ] || [ ! -s "$work/reader" ]; then
+    fail "the reader's table of keys was not found in crates/*/src"
+fi
+paste -d ' ' "$work/numbers" "$work/rows" | awk '{ n = split($1, k, "="); for (i = 1; i <= n; i++) print k[i], $5 }' |
+    sort -n >"$work/keys"
+if cmp -s "$work/reader" "$work/keys"; then
+    pass
+else
+    fail "the keys of the page and of the reader: $(differ "$work/keys" "$work/reader")"
+fi
+
+# --- The ranges. Each key of a listing's line gets values on both sides.
+
+# The listing $1 with the first value behind key $3 on line $2 changed to $4. The
+# curve's n changes its pairs, too.
+changed() {
+    awk -v at="$2" -v key="$3" -v value="$4" 'NR != at { print; next } {
+        n = split($0, pair, " ")
+        line = ""
+        for (i = 1; i <= n; i++) {
+            if (key == "n" && i > 2) break
+            if (!done && index(pair[i], key "=") == 1) { pair[i] = key "=" value; done = 1 }
+            line = line (i > 1 ? " " : "") pair[i]
+        }
+        for (i = 1; key == "n" && i <= value; i++) line = line " to=" i * 1000 " at=100"
+        print line
+    }' "$work/listing.$1"
+}
+
+# The number of the check that refuses line $2 of the listing $1, if it is its
+# first block or its header, with key $3 at $4; 0 where none refuses that line.
+refusal_of() {
+    changed "$@" >"$work/changed"
+    case $1 in
+        header) with_blocks "$work/changed" "$work/listing.block" >"$work/text" && run day ;;
+        block) cp "$work/changed" "$work/text" && run hour ;;
+        import) with_blocks "$work/changed" "$work/listing.curtailed" >"$work/text" && run import ;;
+        curtailed) { cat "$work/listing.import" "$work/changed"; echo; cat "$work/rest"; } >"$work/text" && run import ;;
+    esac
+    sed -n "s/^refused=\([0-9]*\) .*at=$2\$/\1/p; 1q" "$work/got" | grep . || echo 0
+}
+
+# With key $3 at $4 line $2 is refused by one of the checks $5, or by none.
+judged() {
+    number=$(refusal_of "$1" "$2" "$3" "$4")
+    case " $5 " in
+        *" $number "*) pass ;;
+        *) fail "$1, line $2, $3=$4: refused=$number, and not $5" ;;
+    esac
+}
+
+# A number from $4 to $5: RANGE beyond them, or FORM where that takes eight digits or is a count of pairs. A minus alone is FORM, but for a
+# key that may be missing ($6).
+number_row() {
+    beyond=2
+    [ "$3" = n ] && beyond=1
+    judged "$1" "$2" "$3" "$4" "$admitted"
+    judged "$1" "$2" "$3" "$5" "$admitted"
+    judged "$1" "$2" "$3" "$(($4 - 1))" "$beyond"
+    if [ "$5" -eq 9999999 ]; then
+        judged "$1" "$2" "$3" 10000000 1
+    else
+        judged "$1" "$2" "$3" "$(($5 + 1))" "$beyond"
+    fi
+    if [ "$6" = yes ]; then
+        judged "$1" "$2" "$3" - "$admitted"
+    elif [ "$3" != n ]; then
+        judged "$1" "$2" "$3" - 1
+    fi
+}
+
+# 24 digits of the list $4, at hour 5 and elsewhere 0.
+digits_row() {
+    for digit in 0 1 2 3 4 5 6 7 8 9; do
+        case "$4," in
+            *" $digit,"*) wanted=$admitted ;;
+            *) wanted=2 ;;
+        esac
+        judged "$1" "$2" "$3" "00000${digit}000000000000000000" "$wanted"
+    done
+    judged "$1" "$2" "$3" 00000000000000000000000 1
+    judged "$1" "$2" "$3" 0000000000000000000000000 1
+}
+
+# What may be said of a line whose numbers are in their ranges.
+admitted="0 3 4 5 6 7"
+with_blocks /dev/null "$work/listing.curtailed" | sed '1,/^$/d' >"$work/rest"
+tab=$(printf '\t')
+while IFS=$tab read -r place unit range; do
+    # shellcheck disable=SC2086
+    set -- $place
+    tried=0
+    at=$2
+    while [ "$at" -le "$3" ]; do
+        if sed -n "${at}p" "$work/listing.$1" | tr ' ' '\n' | grep -q "^$4="; then
+            tried=1
+            may_miss=no
+            case $unit in *' or -') may_miss=yes ;; esac
+            case $range in
+                '24 digits of '*) digits_row "$1" "$at" "$4" "${range#24 digits of}" ;;
+                *' to '*) number_row "$1" "$at" "$4" "${range% to *}" "${range#* to }" "$may_miss" ;;
+                *' or '*) number_row "$1" "$at" "$4" "${range% or *}" "${range#* or }" "$may_miss" ;;
+                *) number_row "$1" "$at" "$4" "$range" "$range" "$may_miss" ;;
+            esac
+        fi
+        at=$((at + 1))
+    done
+    [ "$tried" -eq 1 ] || fail "$1: no line $2 to $3 has the key $4"
+done <"$work/rows"
+
+finish
