@@ -12,34 +12,10 @@ use borrow.Author.Needs.{needs}
 use Rattle.answers.proofs.put_answer.Statement.{statement}
 use Rattle.answers.proofs.put_answer.Tie as tie
 
-enum-known-answer : tie.Need-enum-known-answer
-enum-known-answer c = search needs
-
-put-refusal-requires : tie.Need-put-refusal-requires
-put-refusal-requires c κs = search needs
-
-enum-known-answer-2 : tie.Need-enum-known-answer-2
-enum-known-answer-2 c = search needs
-
-put-intervals-requires : tie.Need-put-intervals-requires
-put-intervals-requires c κs = search needs
-
-slice-aggregate-put-pay : tie.Need-slice-aggregate-put-pay
-slice-aggregate-put-pay c = search needs
-
-put-pay-requires : tie.Need-put-pay-requires
-put-pay-requires c κs = search needs
-
-same-length : tie.Need-same-length
-same-length c = search needs
-
 returns : tie.Need-returns
 returns c =
     let a = c .before .before .before .before .before .before .before .before .args in
     put-as (ap (λ (x : Answer). answerText (a .hour) (take (a .n) (a .grains .now)) (told x)) (sym (c .before .before .before .before .before .answer .given .1))) (c .before .before .put-refusal .ensures)
-
-same-length-2 : tie.Need-same-length-2
-same-length-2 c = search needs
 
 returns-2 : tie.Need-returns-2
 returns-2 c =
@@ -56,13 +32,8 @@ pub put-answer-spec : {M : Type 1} → statement M
 put-answer-spec =
     tie.close
     (tie.spec
-    enum-known-answer
-    put-refusal-requires
-    enum-known-answer-2
-    put-intervals-requires
-    slice-aggregate-put-pay
-    put-pay-requires
-    same-length
+    (λ c. search needs) (λ c κs. search needs) (λ c. search needs) (λ c κs. search needs) (λ c. search needs) (λ c κs. search needs)
+    (λ c. search needs)
     returns
-    same-length-2
+    (λ c. search needs)
     returns-2)

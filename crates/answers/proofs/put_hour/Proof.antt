@@ -11,42 +11,6 @@ use Rattle.answers.specs.Answers.{hourLine}
 use Rattle.answers.proofs.put_hour.Statement.{statement}
 use Rattle.answers.proofs.put_hour.Tie as tie
 
-slice-aggregate-put-count : tie.Need-slice-aggregate-put-count
-slice-aggregate-put-count c = search needs
-
-put-count-requires : tie.Need-put-count-requires
-put-count-requires c κs = search needs
-
-enum-known-answer : tie.Need-enum-known-answer
-enum-known-answer c = search needs
-
-slice-aggregate-put-signed : tie.Need-slice-aggregate-put-signed
-slice-aggregate-put-signed c = search needs
-
-put-signed-requires : tie.Need-put-signed-requires
-put-signed-requires c κs = search needs
-
-slice-aggregate-put : tie.Need-slice-aggregate-put
-slice-aggregate-put c = search needs
-
-put-requires : tie.Need-put-requires
-put-requires c κs = search needs
-
-enum-known-answer-2 : tie.Need-enum-known-answer-2
-enum-known-answer-2 c = search needs
-
-slice-aggregate-put-2 : tie.Need-slice-aggregate-put-2
-slice-aggregate-put-2 c = search needs
-
-put-requires-2 : tie.Need-put-requires-2
-put-requires-2 c κs = search needs
-
-put-refusal-requires : tie.Need-put-refusal-requires
-put-refusal-requires c κs = search needs
-
-same-length : tie.Need-same-length
-same-length c = search needs
-
 returns : tie.Need-returns
 returns c =
     let m = c .before .before .before .before .before .before .before .before .before .before .before .before .answer .given in
@@ -58,9 +22,6 @@ returns c =
     (put-as (ap (valued (bytes " pay=")) (handed (m .0 .1 .0 .0) (c .before .before .before .before .before .before .before .before .struct-told .given .0 .1))) (c .before .before .before .before .before .before .before .put-signed .ensures)))
     (c .before .before .put .ensures))
 
-same-length-2 : tie.Need-same-length-2
-same-length-2 c = search needs
-
 returns-2 : tie.Need-returns-2
 returns-2 c =
     put-as
@@ -71,18 +32,8 @@ pub put-hour-spec : {M : Type 1} → statement M
 put-hour-spec =
     tie.close
     (tie.spec
-    slice-aggregate-put-count
-    put-count-requires
-    enum-known-answer
-    slice-aggregate-put-signed
-    put-signed-requires
-    slice-aggregate-put
-    put-requires
-    enum-known-answer-2
-    slice-aggregate-put-2
-    put-requires-2
-    put-refusal-requires
-    same-length
+    (λ c. search needs) (λ c κs. search needs) (λ c. search needs) (λ c. search needs) (λ c κs. search needs) (λ c. search needs)
+    (λ c κs. search needs) (λ c. search needs) (λ c. search needs) (λ c κs. search needs) (λ c κs. search needs) (λ c. search needs)
     returns
-    same-length-2
+    (λ c. search needs)
     returns-2)

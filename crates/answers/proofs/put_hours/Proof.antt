@@ -24,21 +24,6 @@ loop-holds : tie.Need-loop-holds Inv-loop μ-loop
 unfolding numbered
 loop-holds c = put-none (c .before .args .row .now) (c .before .args .at)
 
-mul-place : tie.Need-mul-place Inv-loop μ-loop
-mul-place c = search needs
-
-array-copy-out-place : tie.Need-array-copy-out-place Inv-loop μ-loop
-array-copy-out-place c = search needs
-
-put-hour-requires : tie.Need-put-hour-requires Inv-loop μ-loop
-put-hour-requires c κs = search needs
-
-add-k : tie.Need-add-k Inv-loop μ-loop
-add-k c = search needs
-
-loop-less : tie.Need-loop-less Inv-loop μ-loop
-loop-less c = search needs
-
 loop-again : tie.Need-loop-again Inv-loop μ-loop
 loop-again c =
     let s = c .before .before .before .before .before .before .before .before in
@@ -67,11 +52,7 @@ put-hours-spec =
     Inv-loop
     μ-loop
     loop-holds
-    mul-place
-    array-copy-out-place
-    put-hour-requires
-    add-k
-    loop-less
+    (λ c. search needs) (λ c. search needs) (λ c κs. search needs) (λ c. search needs) (λ c. search needs)
     loop-again
     same-length
     returns)

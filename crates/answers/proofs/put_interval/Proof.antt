@@ -8,27 +8,6 @@ use Rattle.page.specs.Numerals.{valued}
 use Rattle.answers.proofs.put_interval.Statement.{statement}
 use Rattle.answers.proofs.put_interval.Tie as tie
 
-slice-aggregate-put-count : tie.Need-slice-aggregate-put-count
-slice-aggregate-put-count c = search needs
-
-put-count-requires : tie.Need-put-count-requires
-put-count-requires c κs = search needs
-
-slice-aggregate-put-signed : tie.Need-slice-aggregate-put-signed
-slice-aggregate-put-signed c = search needs
-
-put-signed-requires : tie.Need-put-signed-requires
-put-signed-requires c κs = search needs
-
-slice-aggregate-put : tie.Need-slice-aggregate-put
-slice-aggregate-put c = search needs
-
-put-requires : tie.Need-put-requires
-put-requires c κs = search needs
-
-same-length : tie.Need-same-length
-same-length c = search needs
-
 returns : tie.Need-returns
 returns c =
     let s = c .before .before .before .before .before .before .before .before .before .before .before .before .before .before .before .before in
@@ -42,11 +21,6 @@ pub put-interval-spec : {M : Type 1} → statement M
 put-interval-spec =
     tie.close
     (tie.spec
-    slice-aggregate-put-count
-    put-count-requires
-    slice-aggregate-put-signed
-    put-signed-requires
-    slice-aggregate-put
-    put-requires
-    same-length
+    (λ c. search needs) (λ c κs. search needs) (λ c. search needs) (λ c κs. search needs) (λ c. search needs) (λ c κs. search needs)
+    (λ c. search needs)
     returns)

@@ -34,24 +34,6 @@ returns c =
     let same : l .i ≡ s .n = let h = l .inv .1 in omega arith in
     put-as (ap (λ (m : ℕ). numbered intervalLine 1 (take m (s .grains .now))) same) (l .inv .0)
 
-add-put-interval : tie.Need-add-put-interval Inv-loop μ-loop
-add-put-interval c = search needs
-
-mul-put-interval : tie.Need-mul-put-interval Inv-loop μ-loop
-mul-put-interval c = search needs
-
-shared-slice-copy-out-put-interval : tie.Need-shared-slice-copy-out-put-interval Inv-loop μ-loop
-shared-slice-copy-out-put-interval c = search needs
-
-put-interval-requires : tie.Need-put-interval-requires Inv-loop μ-loop
-put-interval-requires c κs = search needs
-
-add-i : tie.Need-add-i Inv-loop μ-loop
-add-i c = search needs
-
-loop-less : tie.Need-loop-less Inv-loop μ-loop
-loop-less c = search needs
-
 loop-again : tie.Need-loop-again Inv-loop μ-loop
 loop-again c =
     let l = c .before .before .before .before .before .before .before .loop in
@@ -84,12 +66,7 @@ put-intervals-spec =
     loop-holds
     same-length
     returns
-    add-put-interval
-    mul-put-interval
-    shared-slice-copy-out-put-interval
-    put-interval-requires
-    add-i
-    loop-less
+    (λ c. search needs) (λ c. search needs) (λ c. search needs) (λ c κs. search needs) (λ c. search needs) (λ c. search needs)
     loop-again
     same-length-2
     returns-2)

@@ -8,24 +8,6 @@ use Rattle.page.specs.Numerals.{valued}
 use Rattle.answers.proofs.put_pay.Statement.{statement}
 use Rattle.answers.proofs.put_pay.Tie as tie
 
-put-signed-requires : tie.Need-put-signed-requires
-put-signed-requires c κs = search needs
-
-slice-aggregate-put-signed : tie.Need-slice-aggregate-put-signed
-slice-aggregate-put-signed c = search needs
-
-put-signed-requires-2 : tie.Need-put-signed-requires-2
-put-signed-requires-2 c κs = search needs
-
-slice-aggregate-put : tie.Need-slice-aggregate-put
-slice-aggregate-put c = search needs
-
-put-requires : tie.Need-put-requires
-put-requires c κs = search needs
-
-same-length : tie.Need-same-length
-same-length c = search needs
-
 returns : tie.Need-returns
 returns c =
     let s = c .before .before .before .before .before .before .before .before .before .before .before .before .before .before .before .before .before in
@@ -39,10 +21,5 @@ pub put-pay-spec : {M : Type 1} → statement M
 put-pay-spec =
     tie.close
     (tie.spec
-    put-signed-requires
-    slice-aggregate-put-signed
-    put-signed-requires-2
-    slice-aggregate-put
-    put-requires
-    same-length
+    (λ c κs. search needs) (λ c. search needs) (λ c κs. search needs) (λ c. search needs) (λ c κs. search needs) (λ c. search needs)
     returns)

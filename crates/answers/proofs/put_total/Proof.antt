@@ -11,33 +11,6 @@ use Rattle.answers.specs.Answers.{totalLine}
 use Rattle.answers.proofs.put_total.Statement.{statement}
 use Rattle.answers.proofs.put_total.Tie as tie
 
-enum-known-total : tie.Need-enum-known-total
-enum-known-total c = search needs
-
-slice-aggregate-put-signed : tie.Need-slice-aggregate-put-signed
-slice-aggregate-put-signed c = search needs
-
-put-signed-requires : tie.Need-put-signed-requires
-put-signed-requires c κs = search needs
-
-slice-aggregate-put : tie.Need-slice-aggregate-put
-slice-aggregate-put c = search needs
-
-put-requires : tie.Need-put-requires
-put-requires c κs = search needs
-
-enum-told : tie.Need-enum-told
-enum-told c = search needs
-
-slice-aggregate-put-2 : tie.Need-slice-aggregate-put-2
-slice-aggregate-put-2 c = search needs
-
-put-requires-2 : tie.Need-put-requires-2
-put-requires-2 c κs = search needs
-
-same-length : tie.Need-same-length
-same-length c = search needs
-
 returns : tie.Need-returns
 returns c =
     let m = c .before .before .before .before .before .before .before .before .before .before .before .before .total .given in
@@ -47,9 +20,6 @@ returns c =
     (put-as (ap (valued (bytes "total=")) (handed (m .0 .0 .0) (c .before .before .before .before .before .before .before .before .struct-told .given .0 .1))) (c .before .before .before .before .before .before .before .put-signed .ensures))
     (c .before .before .put .ensures))
 
-same-length-2 : tie.Need-same-length-2
-same-length-2 c = search needs
-
 returns-2 : tie.Need-returns-2
 returns-2 c =
     put-as (ap (λ (t : Total). totalLine (toldTotal t)) (sym (c .before .before .before .before .before .enum-told .given .1))) (c .before .before .put2 .ensures)
@@ -58,15 +28,8 @@ pub put-total-spec : {M : Type 1} → statement M
 put-total-spec =
     tie.close
     (tie.spec
-    enum-known-total
-    slice-aggregate-put-signed
-    put-signed-requires
-    slice-aggregate-put
-    put-requires
-    enum-told
-    slice-aggregate-put-2
-    put-requires-2
-    same-length
+    (λ c. search needs) (λ c. search needs) (λ c κs. search needs) (λ c. search needs) (λ c κs. search needs) (λ c. search needs) (λ c. search needs)
+    (λ c κs. search needs) (λ c. search needs)
     returns
-    same-length-2
+    (λ c. search needs)
     returns-2)

@@ -19,35 +19,11 @@ reply c b e =
     let A = c .before .before .before .before .args in
     reply-told (A .block .now) (A .excluded) (A .expected) (A .row .now) _ _ b (hour (c .before .before)) (c .settle-block .ensures .0) e
 
-hour-expected-requires : tie.Need-hour-expected-requires
-hour-expected-requires c κs = search needs
-
-settle-block-requires : tie.Need-settle-block-requires
-settle-block-requires c κs = search needs
-
-enum-known-answer : tie.Need-enum-known-answer
-enum-known-answer c = search needs
-
-enum-known-answer-2 : tie.Need-enum-known-answer-2
-enum-known-answer-2 c = search needs
-
-place-of-requires : tie.Need-place-of-requires
-place-of-requires c κs = search needs
-
-number-of-requires : tie.Need-number-of-requires
-number-of-requires c κs = search needs
-
-same-length : tie.Need-same-length
-same-length c = search needs
-
 returns : tie.Need-returns
 returns c =
     let k = c .before .before .before .before .before .before in
     let r = reply k _ (c .before .before .before .answer .given .1) in
     (rw r, (rw r, (rw r (handed _ (c .before .struct-told .given .0 .1)), (rw r (handed _ (c .struct-told2 .given .0 .1)), rw (hour (k .before .before)) at (k .settle-block .ensures .1)))))
-
-same-length-2 : tie.Need-same-length-2
-same-length-2 c = search needs
 
 returns-2 : tie.Need-returns-2
 returns-2 c =
@@ -59,13 +35,8 @@ pub culvertjig-block-spec : {M : Type 1} → statement M
 culvertjig-block-spec =
     tie.close
     (tie.spec
-    hour-expected-requires
-    settle-block-requires
-    enum-known-answer
-    enum-known-answer-2
-    place-of-requires
-    number-of-requires
-    same-length
+    (λ c κs. search needs) (λ c κs. search needs) (λ c. search needs) (λ c. search needs) (λ c κs. search needs) (λ c κs. search needs)
+    (λ c. search needs)
     returns
-    same-length-2
+    (λ c. search needs)
     returns-2)

@@ -8,12 +8,6 @@ use Rattle.header.proofs.HeaderLines.{form-refuses, range-refuses, none
 use Rattle.header.proofs.read_header.Statement.{statement}
 use Rattle.header.proofs.read_header.Tie as tie
 
-places-of-requires : tie.Need-places-of-requires
-places-of-requires c κs = search needs
-
-refused-requires : tie.Need-refused-requires
-refused-requires c κs = search needs
-
 returns : tie.Need-returns
 returns c =
     let p = c .before .before .places-of in
@@ -23,9 +17,6 @@ returns c =
 
 odd-line-requires : tie.Need-odd-line-requires
 odd-line-requires c κs = c .before .before .places-of .ensures .placed (c .before .if1 .left)
-
-refused-requires-2 : tie.Need-refused-requires-2
-refused-requires-2 c κs = search needs
 
 returns-2 : tie.Need-returns-2
 returns-2 c =
@@ -40,9 +31,6 @@ marks-of-requires c κs =
     let w = c .before .before .before in
     (w .before .places-of .ensures .placed (w .if1 .left), omega arith)
 
-array-read-t14 : tie.Need-array-read-t14
-array-read-t14 c = search needs
-
 returns-3 : tie.Need-returns-3
 returns-3 c =
     let o = c .before .before in
@@ -55,12 +43,11 @@ pub read-header-spec : {M : Type 1} → statement M
 read-header-spec =
     tie.close
     (tie.spec
-    places-of-requires
-    refused-requires
+    (λ c κs. search needs) (λ c κs. search needs)
     returns
     odd-line-requires
-    refused-requires-2
+    (λ c κs. search needs)
     returns-2
     marks-of-requires
-    array-read-t14
+    (λ c. search needs)
     returns-3)

@@ -10,19 +10,10 @@ use Rattle.imports.proofs.Heads.{said-name, said-cts, said-next, head-i
 use Rattle.imports.proofs.settle_import.Statement.{statement}
 use Rattle.imports.proofs.settle_import.Tie as tie
 
-read-head-requires : tie.Need-read-head-requires
-read-head-requires c κs = search needs
-
-enum-known-found : tie.Need-enum-known-found
-enum-known-found c = search needs
-
 returns : tie.Need-returns
 returns c =
     let h = c .before .before .before in
     head-refuses 24 (h .before .before .args .s .now) _ _ (found-told (h .read-head .ensures .found) (c .before .found .given .1))
-
-enum-told : tie.Need-enum-told
-enum-told c = search needs
 
 -- where the first two lines have no fault
 sound : (c : tie.After-enum-told) → headFault (c .before .before .before .before .args .s .now) ≡ clear
@@ -45,12 +36,4 @@ returns-2 c =
     (c .settle-blocks .ensures)
 
 pub settle-import-spec : {M : Type 1} → statement M
-settle-import-spec =
-    tie.close
-    (tie.spec
-    read-head-requires
-    enum-known-found
-    returns
-    enum-told
-    settle-blocks-requires
-    returns-2)
+settle-import-spec = tie.close (tie.spec (λ c κs. search needs) (λ c. search needs) returns (λ c. search needs) settle-blocks-requires returns-2)

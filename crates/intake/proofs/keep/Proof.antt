@@ -23,14 +23,8 @@ returns c =
     let s = c .before .before .before in
     no-room (s .args .row .now) (s .args .i) (s .args .bytes .now) (omega arith)
 
-sub-last : tie.Need-sub-last Inv-loop μ-loop
-sub-last c = search needs
-
 loop-holds : tie.Need-loop-holds Inv-loop μ-loop
 loop-holds c = (refl, refl, refl)
-
-same-length : tie.Need-same-length Inv-loop μ-loop
-same-length c = search needs
 
 returns-2 : tie.Need-returns-2 Inv-loop μ-loop
 returns-2 c =
@@ -38,17 +32,8 @@ returns-2 c =
     let e = no-room (l .row) (l .state) (drop (l .at) _) (let h = l .inv .0 in omega arith) in
     (e .0 ∙ sym (l .inv .1), e .1 ∙ sym (l .inv .2))
 
-shared-slice-read-b : tie.Need-shared-slice-read-b Inv-loop μ-loop
-shared-slice-read-b c = search needs
-
 next-requires : tie.Need-next-requires Inv-loop μ-loop
 next-requires c κs = let e = c .before .before .before .before .loop .inv .0 in omega arith
-
-add-at : tie.Need-add-at Inv-loop μ-loop
-add-at c = search needs
-
-loop-less : tie.Need-loop-less Inv-loop μ-loop
-loop-less c = search needs
 
 loop-again : tie.Need-loop-again Inv-loop μ-loop
 loop-again c =
@@ -58,9 +43,6 @@ loop-again c =
     let room : l .state .n + 3 ≤ length (l .row) = let h = l .inv .0 in omega arith in
     let e = next-byte (l .row) _ (l .state) _ _ (l .at) room (p .loop-test .taken) (told .0) (told .1) in
     (ap length (told .1) ∙ placed-length (l .row) (l .state) _ room ∙ l .inv .0, l .inv .1 ∙ e .0, l .inv .2 ∙ e .1)
-
-same-length-2 : tie.Need-same-length-2 Inv-loop μ-loop
-same-length-2 c = search needs
 
 returns-3 : tie.Need-returns-3 Inv-loop μ-loop
 returns-3 c =
@@ -75,14 +57,13 @@ keep-spec =
     Inv-loop
     μ-loop
     returns
-    sub-last
+    (λ c. search needs)
     loop-holds
-    same-length
+    (λ c. search needs)
     returns-2
-    shared-slice-read-b
+    (λ c. search needs)
     next-requires
-    add-at
-    loop-less
+    (λ c. search needs) (λ c. search needs)
     loop-again
-    same-length-2
+    (λ c. search needs)
     returns-3)

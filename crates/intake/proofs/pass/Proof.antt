@@ -8,29 +8,11 @@ use Rattle.intake.proofs.Step.{passed, cut, stepped, unmoved, add-two}
 use Rattle.intake.proofs.pass.Statement.{statement}
 use Rattle.intake.proofs.pass.Tie as tie
 
-slice-write-row : tie.Need-slice-write-row
-slice-write-row c = search needs
-
-add-row : tie.Need-add-row
-add-row c = search needs
-
 slice-write-row-2 : tie.Need-slice-write-row-2
 slice-write-row-2 c = simp length-set (omega arith)
 
-add-row-2 : tie.Need-add-row-2
-add-row-2 c = search needs
-
 slice-write-row-3 : tie.Need-slice-write-row-3
 slice-write-row-3 c = simp length-set (omega arith)
-
-add-closed-at : tie.Need-add-closed-at
-add-closed-at c = search needs
-
-closed-at-requires : tie.Need-closed-at-requires
-closed-at-requires c κs = search needs
-
-same-length : tie.Need-same-length
-same-length c = search needs
 
 returns : tie.Need-returns
 returns c =
@@ -47,13 +29,10 @@ pub pass-spec : {M : Type 1} → statement M
 pass-spec =
     tie.close
     (tie.spec
-    slice-write-row
-    add-row
+    (λ c. search needs) (λ c. search needs)
     slice-write-row-2
-    add-row-2
+    (λ c. search needs)
     slice-write-row-3
-    add-closed-at
-    closed-at-requires
-    same-length
+    (λ c. search needs) (λ c κs. search needs) (λ c. search needs)
     returns
     returns-2)

@@ -4,15 +4,6 @@ use Rattle.intake.proofs.Step.{first, later, stepped, unmoved}
 use Rattle.intake.proofs.surplus.Statement.{statement}
 use Rattle.intake.proofs.surplus.Tie as tie
 
-slice-write-row : tie.Need-slice-write-row
-slice-write-row c = search needs
-
-add-t9 : tie.Need-add-t9
-add-t9 c = search needs
-
-same-length : tie.Need-same-length
-same-length c = search needs
-
 returns : tie.Need-returns
 returns c = let s = c .before in stepped (s .args .i) (s .args .b) (s .args .row .now) (s .pre .0) (first (s .pre .1) (c .if1 .taken))
 
@@ -20,4 +11,4 @@ returns-2 : tie.Need-returns-2
 returns-2 c = let s = c .before in unmoved (s .args .i) (s .args .b) (s .args .row .now) (s .pre .0) (later (s .pre .1) (c .if1 .left))
 
 pub surplus-spec : {M : Type 1} → statement M
-surplus-spec = tie.close (tie.spec slice-write-row add-t9 same-length returns returns-2)
+surplus-spec = tie.close (tie.spec (λ c. search needs) (λ c. search needs) (λ c. search needs) returns returns-2)

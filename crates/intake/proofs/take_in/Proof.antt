@@ -18,46 +18,13 @@ Inv-loop row₀ pieces chunk₀ i₀ turns₀ row chunk i turns =
 abbrev μ-loop : tie.MeasureT-loop
 μ-loop row₀ pieces chunk₀ i₀ turns₀ row chunk i turns = turns
 
-large-buffer-requires : tie.Need-large-buffer-requires Inv-loop μ-loop
-large-buffer-requires c κs = search needs
-
-at-first-requires : tie.Need-at-first-requires Inv-loop μ-loop
-at-first-requires c κs = search needs
-
 loop-holds : tie.Need-loop-holds Inv-loop μ-loop
 loop-holds c = (refl, search needs, let e = ap (λ (i : Intake). i .n) (c .at-first .ensures) in omega arith, none-yet _ _ _ (c .at-first .ensures))
-
-slice-aggregate-read : tie.Need-slice-aggregate-read Inv-loop μ-loop
-slice-aggregate-read c = search needs
-
-read-requires : tie.Need-read-requires Inv-loop μ-loop
-read-requires c κs = search needs
-
-same-length : tie.Need-same-length Inv-loop μ-loop
-same-length c = search needs
 
 returns : tie.Need-returns Inv-loop μ-loop
 returns c =
     let l = c .before .before .before .before .before .loop in
     (counts _ _ (l .inv .2), taken-in _ _ _ _ (l .inv .3))
-
-slice-aggregate-count : tie.Need-slice-aggregate-count Inv-loop μ-loop
-slice-aggregate-count c = search needs
-
-count-requires : tie.Need-count-requires Inv-loop μ-loop
-count-requires c κs = search needs
-
-array-share-prefix-chunk : tie.Need-array-share-prefix-chunk Inv-loop μ-loop
-array-share-prefix-chunk c = search needs
-
-slice-aggregate-keep : tie.Need-slice-aggregate-keep Inv-loop μ-loop
-slice-aggregate-keep c = search needs
-
-keep-requires : tie.Need-keep-requires Inv-loop μ-loop
-keep-requires c κs = search needs
-
-same-length-2 : tie.Need-same-length-2 Inv-loop μ-loop
-same-length-2 c = search needs
 
 returns-2 : tie.Need-returns-2 Inv-loop μ-loop
 returns-2 c =
@@ -66,12 +33,6 @@ returns-2 c =
       counts _ _ (kept-within (l .row) (k .keep .last .0) (l .i) _ _ (k .keep .ensures .0) (search needs) (l .inv .2)),
       taken-in _ _ _ _ (a-part-more _ _ _ _ (l .inv .3) _ _ _ (k .keep .ensures .0) (k .keep .ensures .1)),
     )
-
-sub-turns : tie.Need-sub-turns Inv-loop μ-loop
-sub-turns c = search needs
-
-loop-less : tie.Need-loop-less Inv-loop μ-loop
-loop-less c = search needs
 
 loop-again : tie.Need-loop-again Inv-loop μ-loop
 loop-again c =
@@ -82,9 +43,6 @@ loop-again c =
       kept-within (l .row) (k .keep .last .0) (l .i) _ _ (k .keep .ensures .0) (search needs) (l .inv .2),
       a-part-more _ _ _ _ (l .inv .3) _ _ _ (k .keep .ensures .0) (k .keep .ensures .1),
     )
-
-same-length-3 : tie.Need-same-length-3 Inv-loop μ-loop
-same-length-3 c = search needs
 
 returns-3 : tie.Need-returns-3 Inv-loop μ-loop
 returns-3 c =
@@ -97,22 +55,13 @@ take-in-spec =
     (tie.spec
     Inv-loop
     μ-loop
-    large-buffer-requires
-    at-first-requires
+    (λ c κs. search needs) (λ c κs. search needs)
     loop-holds
-    slice-aggregate-read
-    read-requires
-    same-length
+    (λ c. search needs) (λ c κs. search needs) (λ c. search needs)
     returns
-    slice-aggregate-count
-    count-requires
-    array-share-prefix-chunk
-    slice-aggregate-keep
-    keep-requires
-    same-length-2
+    (λ c. search needs) (λ c κs. search needs) (λ c. search needs) (λ c. search needs) (λ c κs. search needs) (λ c. search needs)
     returns-2
-    sub-turns
-    loop-less
+    (λ c. search needs) (λ c. search needs)
     loop-again
-    same-length-3
+    (λ c. search needs)
     returns-3)

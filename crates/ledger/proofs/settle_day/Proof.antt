@@ -13,15 +13,6 @@ use Rattle.ledger.proofs.Days.{header-inside, all-refused, total-withhe
 use Rattle.ledger.proofs.settle_day.Statement.{statement}
 use Rattle.ledger.proofs.settle_day.Tie as tie
 
-read-header-requires : tie.Need-read-header-requires
-read-header-requires c κs = search needs
-
-enum-known-found : tie.Need-enum-known-found
-enum-known-found c = search needs
-
-refused-day-requires : tie.Need-refused-day-requires
-refused-day-requires c κs = search needs
-
 returns : tie.Need-returns
 returns c =
     let s : List ℕ = c .before .before .before .before .before .before .args .sheet .now in
@@ -35,12 +26,6 @@ returns c =
         ap (λ (d : Day). toldTotal (d .total)) same ∙ total-withheld 24 s check e (omega arith),
       ),
     )
-
-enum-told : tie.Need-enum-told
-enum-told c = search needs
-
-excluded-hours-requires : tie.Need-excluded-hours-requires
-excluded-hours-requires c κs = search needs
 
 settle-hours-requires : tie.Need-settle-hours-requires
 settle-hours-requires c κs =
@@ -71,11 +56,8 @@ pub settle-day-spec : {M : Type 1} → statement M
 settle-day-spec =
     tie.close
     (tie.spec
-    read-header-requires
-    enum-known-found
-    refused-day-requires
+    (λ c κs. search needs) (λ c. search needs) (λ c κs. search needs)
     returns
-    enum-told
-    excluded-hours-requires
+    (λ c. search needs) (λ c κs. search needs)
     settle-hours-requires
     returns-2)

@@ -5,9 +5,6 @@ use Rattle.lines.specs.Line.{closes}
 use Rattle.lines.proofs.is_closed.Statement.{statement}
 use Rattle.lines.proofs.is_closed.Tie as tie
 
-byte-at-requires : tie.Need-byte-at-requires
-byte-at-requires c κs = search needs
-
 returns : tie.Need-returns
 unfolding closes
 returns c = simp (← c .before .byte-at .ensures, eq-eqb _ _ (c .if1 .taken))
@@ -21,4 +18,4 @@ unfolding closes
 returns-3 c = simp (← c .before .before .byte-at .ensures, ne-eqb _ _ (c .before .if1 .left), ne-eqb _ _ (c .if2 .left))
 
 pub is-closed-spec : {M : Type 1} → statement M
-is-closed-spec = tie.close (tie.spec byte-at-requires returns returns-2 returns-3)
+is-closed-spec = tie.close (tie.spec (λ c κs. search needs) returns returns-2 returns-3)

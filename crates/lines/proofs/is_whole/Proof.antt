@@ -5,15 +5,6 @@ use Rattle.lines.proofs.Whole.{ends-not, ends-alone, ends-behind, ends-
 use Rattle.lines.proofs.is_whole.Statement.{statement}
 use Rattle.lines.proofs.is_whole.Tie as tie
 
-returns : tie.Need-returns
-returns c = search needs
-
-sub-byte-at : tie.Need-sub-byte-at
-sub-byte-at c = search needs
-
-byte-at-requires : tie.Need-byte-at-requires
-byte-at-requires c κs = search needs
-
 returns-2 : tie.Need-returns-2
 returns-2 c =
     let A = c .before .before .before .before .args in
@@ -23,12 +14,6 @@ returns-3 : tie.Need-returns-3
 returns-3 c =
     let A = c .before .before .before .before .before .args in
     sym (ends-alone (A .text .now) (A .n) (c .if3 .taken) (sym (c .before .before .byte-at .ensures) ∙ c .before .if2 .left))
-
-sub-byte-at-2 : tie.Need-sub-byte-at-2
-sub-byte-at-2 c = search needs
-
-byte-at-requires-2 : tie.Need-byte-at-requires-2
-byte-at-requires-2 c κs = search needs
 
 returns-4 : tie.Need-returns-4
 returns-4 c =
@@ -50,12 +35,9 @@ pub is-whole-spec : {M : Type 1} → statement M
 is-whole-spec =
     tie.close
     (tie.spec
-    returns
-    sub-byte-at
-    byte-at-requires
+    (λ c. search needs) (λ c. search needs) (λ c κs. search needs)
     returns-2
     returns-3
-    sub-byte-at-2
-    byte-at-requires-2
+    (λ c. search needs) (λ c κs. search needs)
     returns-4
     returns-5)

@@ -6,15 +6,6 @@ use Rattle.lines.specs.Pieces.{orEnd, pieceAfter}
 use Rattle.lines.proofs.piece_after.Statement.{statement}
 use Rattle.lines.proofs.piece_after.Tie as tie
 
-empty-line-requires : tie.Need-empty-line-requires
-empty-line-requires c κs = search needs
-
-enum-known-next : tie.Need-enum-known-next
-enum-known-next c = search needs
-
-enum-told : tie.Need-enum-told
-enum-told c = search needs
-
 returns : tie.Need-returns
 unfolding pieceAfter
 returns c =
@@ -28,4 +19,4 @@ returns-2 c =
     ap (λ (x : Next). orEnd x s) (sym (c .enum-told .given .1) ∙ c .before .before .empty-line .ensures)
 
 pub piece-after-spec : {M : Type 1} → statement M
-piece-after-spec = tie.close (tie.spec empty-line-requires enum-known-next enum-told returns returns-2)
+piece-after-spec = tie.close (tie.spec (λ c κs. search needs) (λ c. search needs) (λ c. search needs) returns returns-2)

@@ -9,9 +9,6 @@ use Rattle.marks.proofs.Marked.{bit-test, marked-past}
 use Rattle.marks.proofs.is_marked.Statement.{statement}
 use Rattle.marks.proofs.is_marked.Tie as tie
 
-shr-result : tie.Need-shr-result
-shr-result c = search needs
-
 returns : tie.Need-returns
 returns c = bit-test (c .before .args .word) (c .before .args .hour)
 
@@ -22,4 +19,4 @@ returns-2 c =
     sym (marked-past (a .word) (a .hour) (lt-of-lt-of-le u (pow-mono (c .if1 .left))))
 
 pub is-marked-spec : {M : Type 1} → statement M
-is-marked-spec = tie.close (tie.spec shr-result returns returns-2)
+is-marked-spec = tie.close (tie.spec (λ c. search needs) returns returns-2)

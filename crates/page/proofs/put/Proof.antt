@@ -23,20 +23,8 @@ same-length c = put-length (c .before .before .loop .inv)
 returns : tie.Need-returns Inv-loop μ-loop
 returns c = let l = c .before .before .loop in put-up-to-end _ (l .i) (l .inv) (omega arith)
 
-shared-slice-read-row : tie.Need-shared-slice-read-row Inv-loop μ-loop
-shared-slice-read-row c = search needs
-
-slice-write-row : tie.Need-slice-write-row Inv-loop μ-loop
-slice-write-row c = search needs
-
 add-next : tie.Need-add-next Inv-loop μ-loop
 add-next c = let e = put-length (c .before .before .before .loop .inv) in search (needs, e)
-
-add-i : tie.Need-add-i Inv-loop μ-loop
-add-i c = search needs
-
-loop-less : tie.Need-loop-less Inv-loop μ-loop
-loop-less c = search needs
 
 loop-again : tie.Need-loop-again Inv-loop μ-loop
 loop-again c = let l = c .before .before .before .loop in put-byte _ (l .i) (l .inv) (omega arith) (omega arith)
@@ -56,11 +44,9 @@ put-spec =
     loop-holds
     same-length
     returns
-    shared-slice-read-row
-    slice-write-row
+    (λ c. search needs) (λ c. search needs)
     add-next
-    add-i
-    loop-less
+    (λ c. search needs) (λ c. search needs)
     loop-again
     same-length-2
     returns-2)

@@ -14,21 +14,6 @@ use Rattle.page.proofs.Numerals.{plain, with-minus}
 use Rattle.page.proofs.put_signed.Statement.{statement}
 use Rattle.page.proofs.put_signed.Tie as tie
 
-put-requires : tie.Need-put-requires
-put-requires c κs = search needs
-
-slice-aggregate-put-count : tie.Need-slice-aggregate-put-count
-slice-aggregate-put-count c = search needs
-
-magnitude-requires : tie.Need-magnitude-requires
-magnitude-requires c κs = search needs
-
-put-count-requires : tie.Need-put-count-requires
-put-count-requires c κs = search needs
-
-same-length : tie.Need-same-length
-same-length c = search needs
-
 returns : tie.Need-returns
 returns c =
     let below = c .before .before .before .before .before .before .before .before .before .before in
@@ -40,15 +25,6 @@ returns c =
     put-then
     (c .before .before .before .before .before .before .before .before .put .ensures)
     (put-as number (c .before .before .put-count .ensures))
-
-magnitude-requires-2 : tie.Need-magnitude-requires-2
-magnitude-requires-2 c κs = search needs
-
-put-count-requires-2 : tie.Need-put-count-requires-2
-put-count-requires-2 c κs = search needs
-
-same-length-2 : tie.Need-same-length-2
-same-length-2 c = search needs
 
 returns-2 : tie.Need-returns-2
 returns-2 c =
@@ -64,13 +40,7 @@ pub put-signed-spec : {M : Type 1} → statement M
 put-signed-spec =
     tie.close
     (tie.spec
-    put-requires
-    slice-aggregate-put-count
-    magnitude-requires
-    put-count-requires
-    same-length
+    (λ c κs. search needs) (λ c. search needs) (λ c κs. search needs) (λ c κs. search needs) (λ c. search needs)
     returns
-    magnitude-requires-2
-    put-count-requires-2
-    same-length-2
+    (λ c κs. search needs) (λ c κs. search needs) (λ c. search needs)
     returns-2)

@@ -11,12 +11,6 @@ use borrow.Author.Needs.{needs}
 use Rattle.printed.proofs.answer_text.Statement.{statement}
 use Rattle.printed.proofs.answer_text.Tie as tie
 
-put-answer-requires : tie.Need-put-answer-requires
-put-answer-requires c κs = search needs
-
-same-length : tie.Need-same-length
-same-length c = search needs
-
 returns : tie.Need-returns
 returns c =
     let s = c .before .before .before .before .before in
@@ -27,4 +21,4 @@ returns c =
     (c .before .before .put-answer .ensures))
 
 pub answer-text-spec : {M : Type 1} → statement M
-answer-text-spec = tie.close (tie.spec put-answer-requires same-length returns)
+answer-text-spec = tie.close (tie.spec (λ c κs. search needs) (λ c. search needs) returns)

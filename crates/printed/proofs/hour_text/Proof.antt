@@ -7,24 +7,6 @@ use borrow.Author.Needs.{needs}
 use Rattle.printed.proofs.hour_text.Statement.{statement}
 use Rattle.printed.proofs.hour_text.Tie as tie
 
-slice-aggregate-settle-block : tie.Need-slice-aggregate-settle-block
-slice-aggregate-settle-block c = search needs
-
-settle-block-requires : tie.Need-settle-block-requires
-settle-block-requires c κs = search needs
-
-said-by-requires : tie.Need-said-by-requires
-said-by-requires c κs = search needs
-
-slice-aggregate-put-answer : tie.Need-slice-aggregate-put-answer
-slice-aggregate-put-answer c = search needs
-
-put-answer-requires : tie.Need-put-answer-requires
-put-answer-requires c κs = search needs
-
-same-length : tie.Need-same-length
-same-length c = search needs
-
 returns : tie.Need-returns
 returns c =
     let s = c .before .before .before .before .before .before .before .before .before .before .before .before .args .block .now in
@@ -39,10 +21,5 @@ pub hour-text-spec : {M : Type 1} → statement M
 hour-text-spec =
     tie.close
     (tie.spec
-    slice-aggregate-settle-block
-    settle-block-requires
-    said-by-requires
-    slice-aggregate-put-answer
-    put-answer-requires
-    same-length
+    (λ c. search needs) (λ c κs. search needs) (λ c κs. search needs) (λ c. search needs) (λ c κs. search needs) (λ c. search needs)
     returns)

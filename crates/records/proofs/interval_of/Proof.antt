@@ -31,9 +31,6 @@ array-copy-out-t29 c = lit< tt
 array-copy-out-uol-of : tie.Need-array-copy-out-uol-of
 array-copy-out-uol-of c = lit< tt
 
-uol-of-requires : tie.Need-uol-of-requires
-uol-of-requires c κs = search needs
-
 array-copy-out-t37 : tie.Need-array-copy-out-t37
 array-copy-out-t37 c = lit< tt
 
@@ -91,7 +88,7 @@ interval-of-spec =
     array-copy-out-t25
     array-copy-out-t29
     array-copy-out-uol-of
-    uol-of-requires
+    (λ c κs. search needs)
     array-copy-out-t37
     array-copy-out-t41
     array-copy-out-t45

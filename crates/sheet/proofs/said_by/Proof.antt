@@ -6,9 +6,6 @@ use borrow.Author.Needs.{needs}
 use Rattle.sheet.proofs.said_by.Statement.{statement}
 use Rattle.sheet.proofs.said_by.Tie as tie
 
-read-hour-requires : tie.Need-read-hour-requires
-read-hour-requires c κs = search needs
-
 returns : tie.Need-returns
 returns c =
     let b = block-broken _ _ (c .before .read-hour .ensures) (c .if1 .taken) in
@@ -21,4 +18,4 @@ returns-2 c =
     (rw b (held-is _ _ (c .struct-told .given .0 .1) refl), rw b)
 
 pub said-by-spec : {M : Type 1} → statement M
-said-by-spec = tie.close (tie.spec read-hour-requires returns returns-2)
+said-by-spec = tie.close (tie.spec (λ c κs. search needs) returns returns-2)

@@ -6,9 +6,6 @@ use Rattle.text.specs.Number.{digitAt}
 use Rattle.text.proofs.digit_at.Statement.{statement}
 use Rattle.text.proofs.digit_at.Tie as tie
 
-byte-at-requires : tie.Need-byte-at-requires
-byte-at-requires c κs = search needs
-
 returns : tie.Need-returns
 unfolding digitAt
 returns c = (simp (← c .before .byte-at .ensures, lt-ltb _ _ (c .if1 .taken)), omega arith)
@@ -28,4 +25,4 @@ returns-3 c = (
 )
 
 pub digit-at-spec : {M : Type 1} → statement M
-digit-at-spec = tie.close (tie.spec byte-at-requires returns returns-2 returns-3)
+digit-at-spec = tie.close (tie.spec (λ c κs. search needs) returns returns-2 returns-3)

@@ -30,9 +30,6 @@ shared-slice-read-k c = omega (arith, c .before .if1 .left)
 cast-k : tie.Need-cast-k Inv-loop μ-loop
 cast-k c = omega (arith, c .shared-slice-known3 .given 0)
 
-byte-at-requires : tie.Need-byte-at-requires Inv-loop μ-loop
-byte-at-requires c κs = search needs
-
 returns-2 : tie.Need-returns-2 Inv-loop μ-loop
 returns-2 c =
     let e = c .before .before .before in
@@ -57,12 +54,6 @@ add-end c =
     let a = d .before .before .before .before .before .args in
     omega (arith, byte-inside (a .s .now) (a .at) _ (sym (d .byte-at .ensures) ∙ c .before .if2 .left) (d .before .shared-slice-known3 .given 0 .fits))
 
-sub-here : tie.Need-sub-here Inv-loop μ-loop
-sub-here c = omega arith
-
-part-here-start : tie.Need-part-here-start Inv-loop μ-loop
-part-here-start c = omega arith
-
 part-here-end : tie.Need-part-here-end Inv-loop μ-loop
 part-here-end c =
     let d = c .before .before in
@@ -83,9 +74,6 @@ loop-holds c =
 shared-slice-read-if4 : tie.Need-shared-slice-read-if4 Inv-loop μ-loop
 shared-slice-read-if4 c = omega (arith, c .before .before .before .here .given .1)
 
-shared-slice-read-if4-2 : tie.Need-shared-slice-read-if4-2 Inv-loop μ-loop
-shared-slice-read-if4-2 c = search needs
-
 returns-4 : tie.Need-returns-4 Inv-loop μ-loop
 returns-4 c =
     let w = c .before .before .before in
@@ -93,12 +81,6 @@ returns-4 c =
     let a = w .before .before .before .before .before .before .before .before .before .before .args in
     let byte = part-byte (a .s .now) (a .at) (length (a .key .now)) (l .j) (l .inv .1) (w .loop-test .taken) in
     sym (l .inv .2 ∙ key-differs (a .key .now) (a .s .now) (l .j) (a .at + l .j) (w .loop-test .taken) (λ e. c .if4 .taken (byte ∙ e)))
-
-add-j : tie.Need-add-j Inv-loop μ-loop
-add-j c = search needs
-
-loop-less : tie.Need-loop-less Inv-loop μ-loop
-loop-less c = search needs
 
 loop-again : tie.Need-loop-again Inv-loop μ-loop
 loop-again c =
@@ -128,19 +110,17 @@ key-at-spec =
     returns
     shared-slice-read-k
     cast-k
-    byte-at-requires
+    (λ c κs. search needs)
     returns-2
     sub-if3
     returns-3
     add-end
-    sub-here
-    part-here-start
+    (λ c. omega arith) (λ c. omega arith)
     part-here-end
     loop-holds
     shared-slice-read-if4
-    shared-slice-read-if4-2
+    (λ c. search needs)
     returns-4
-    add-j
-    loop-less
+    (λ c. search needs) (λ c. search needs)
     loop-again
     returns-5)

@@ -10,19 +10,10 @@ use Rattle.text.proofs.Numbers.{read-inside, number-plain, number-minus
 use Rattle.text.proofs.number_at.Statement.{statement}
 use Rattle.text.proofs.number_at.Tie as tie
 
-byte-at-requires : tie.Need-byte-at-requires
-byte-at-requires c κs = search needs
-
 add-first : tie.Need-add-first
 add-first c =
     let a = c .before .before .before .args in
     omega (arith, read-inside (a .s .now) (a .at) _ (c .before .byte-at .ensures) (omega (arith, c .if1 .taken)))
-
-natural-at-requires : tie.Need-natural-at-requires
-natural-at-requires c κs = search needs
-
-enum-known-n : tie.Need-enum-known-n
-enum-known-n c = search needs
 
 positive-requires : tie.Need-positive-requires
 positive-requires c κs =
@@ -60,9 +51,6 @@ negative-requires c κs =
     let m = c .before .before .before in
     subst Small (m .n .given .1) (m .before .before .natural-at .ensures .1)
 
-enum-told : tie.Need-enum-told
-enum-told c = search needs
-
 returns-3 : tie.Need-returns-3
 returns-3 c =
     let m = c .before .before .before .before in
@@ -91,14 +79,13 @@ pub number-at-spec : {M : Type 1} → statement M
 number-at-spec =
     tie.close
     (tie.spec
-    byte-at-requires
+    (λ c κs. search needs)
     add-first
-    natural-at-requires
-    enum-known-n
+    (λ c κs. search needs) (λ c. search needs)
     positive-requires
     returns
     returns-2
     negative-requires
-    enum-told
+    (λ c. search needs)
     returns-3
     returns-4)

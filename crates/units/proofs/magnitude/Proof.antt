@@ -35,9 +35,5 @@ cast-result-2 c =
 returns : tie.Need-returns
 returns c = below c .same
 
-returns-2 : tie.Need-returns-2
-returns-2 c = search needs
-
 pub magnitude-spec : {M : Type 1} → statement M
-magnitude-spec =
-    tie.close (tie.spec add-less sub-less cast-result add-result cast-result-2 returns returns-2)
+magnitude-spec = tie.close (tie.spec add-less sub-less cast-result add-result cast-result-2 returns (λ c. search needs))

@@ -63,52 +63,13 @@ module _ (c : tie.After-known-told3) where
   rt-is : c .before .before .before .curve-at2 .result .curve ≡ curveOf 12 (text (in1 (in2 in3))) (place3 in3)
   rt-is = c .before .before .before .curve-at2 .ensures .curve _ (c .before .rt-next .given .1)
 
-fields-at-requires : tie.Need-fields-at-requires
-fields-at-requires c κs = search needs
-
-line-end-requires : tie.Need-line-end-requires
-line-end-requires c κs = search needs
-
-enum-known-p1 : tie.Need-enum-known-p1
-enum-known-p1 c = search needs
-
-enum-told : tie.Need-enum-told
-enum-told c = search needs
-
-broken-block-requires : tie.Need-broken-block-requires
-broken-block-requires c κs = search needs
-
 returns : tie.Need-returns
 returns c = block-line1 _ _ _ (line1 (c .before .before .before) ∙ c .before .enum-told .given .1) (c .broken-block .ensures)
-
-curve-at-requires : tie.Need-curve-at-requires
-curve-at-requires c κs = search needs
-
-enum-known-da-next : tie.Need-enum-known-da-next
-enum-known-da-next c = search needs
-
-enum-told-2 : tie.Need-enum-told-2
-enum-told-2 c = search needs
-
-broken-block-requires-2 : tie.Need-broken-block-requires-2
-broken-block-requires-2 c κs = search needs
 
 returns-2 : tie.Need-returns-2
 returns-2 c =
     let k = c .before .before .before in
     block-line2 _ _ _ (line2-at (k .before)) _ (sym (k .curve-at .ensures .next) ∙ c .before .enum-told2 .given .1) (c .broken-block2 .ensures)
-
-curve-at-requires-2 : tie.Need-curve-at-requires-2
-curve-at-requires-2 c κs = search needs
-
-enum-known-rt-next : tie.Need-enum-known-rt-next
-enum-known-rt-next c = search needs
-
-enum-told-3 : tie.Need-enum-told-3
-enum-told-3 c = search needs
-
-broken-block-requires-3 : tie.Need-broken-block-requires-3
-broken-block-requires-3 c κs = search needs
 
 returns-3 : tie.Need-returns-3
 returns-3 c =
@@ -116,22 +77,10 @@ returns-3 c =
     block-line3 _ _ _ (line2-at (in2 (k .before))) _ (line3-at (k .before)) _ (sym (k .curve-at2 .ensures .next) ∙ c .before .enum-told3 .given .1)
     (c .broken-block3 .ensures)
 
-rows-at-requires : tie.Need-rows-at-requires
-rows-at-requires c κs = search needs
-
-broken-block-requires-4 : tie.Need-broken-block-requires-4
-broken-block-requires-4 c κs = search needs
-
 returns-4 : tie.Need-returns-4
 returns-4 c =
     let k = c .before .before .before in
     block-row _ _ _ (line2-at (in2 (in3 k))) _ (line3-at (in3 k)) _ (line4-at k) _ (c .before .before .rows-at .ensures) _ (c .before .if1 .taken) (c .broken-block4 .ensures)
-
-ahead-of-requires : tie.Need-ahead-of-requires
-ahead-of-requires c κs = search needs
-
-array-copy-out-t25 : tie.Need-array-copy-out-t25
-array-copy-out-t25 c = search needs
 
 returns-5 : tie.Need-returns-5
 returns-5 c =
@@ -145,25 +94,13 @@ pub read-block-spec : {M : Type 1} → statement M
 read-block-spec =
     tie.close
     (tie.spec
-    fields-at-requires
-    line-end-requires
-    enum-known-p1
-    enum-told
-    broken-block-requires
+    (λ c κs. search needs) (λ c κs. search needs) (λ c. search needs) (λ c. search needs) (λ c κs. search needs)
     returns
-    curve-at-requires
-    enum-known-da-next
-    enum-told-2
-    broken-block-requires-2
+    (λ c κs. search needs) (λ c. search needs) (λ c. search needs) (λ c κs. search needs)
     returns-2
-    curve-at-requires-2
-    enum-known-rt-next
-    enum-told-3
-    broken-block-requires-3
+    (λ c κs. search needs) (λ c. search needs) (λ c. search needs) (λ c κs. search needs)
     returns-3
-    rows-at-requires
-    broken-block-requires-4
+    (λ c κs. search needs) (λ c κs. search needs)
     returns-4
-    ahead-of-requires
-    array-copy-out-t25
+    (λ c κs. search needs) (λ c. search needs)
     returns-5)

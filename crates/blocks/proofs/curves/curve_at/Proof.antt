@@ -33,43 +33,13 @@ module _ (c : tie.After-count-of) where
       c .count-of .ensures
       ∙ ap countOf (held-is _ _ (c .before .count-of-arg2 .given) (head .values 1 (omega arith)))
 
-fields-at-requires : tie.Need-fields-at-requires
-fields-at-requires c κs = search needs
-
-array-copy-out-count-of : tie.Need-array-copy-out-count-of
-array-copy-out-count-of c = search needs
-
-array-copy-out-count-of-2 : tie.Need-array-copy-out-count-of-2
-array-copy-out-count-of-2 c = search needs
-
-count-of-requires : tie.Need-count-of-requires
-count-of-requires c κs = search needs
-
-enum-known-next : tie.Need-enum-known-next
-enum-known-next c = search needs
-
-enum-told : tie.Need-enum-told
-enum-told c = search needs
-
-no-curve-requires : tie.Need-no-curve-requires
-no-curve-requires c κs = search needs
-
 returns : tie.Need-returns
 returns c = curve-headless _ _ _ _ _ (head-is (c .before .before .before) (c .before .enum-told .given .1)) (c .no-curve .ensures)
-
-no-curve-requires-2 : tie.Need-no-curve-requires-2
-no-curve-requires-2 c κs = search needs
 
 returns-2 : tie.Need-returns-2
 returns-2 c =
     let k = c .before .before .before .before .before in
     curve-many _ _ _ _ (head-is k (c .before .before .before .next .given .1)) _ (count-is k) _ _ (c .before .if1 .taken) (c .no-curve2 .ensures)
-
-pairs-at-requires : tie.Need-pairs-at-requires
-pairs-at-requires c κs = search needs
-
-line-end-requires : tie.Need-line-end-requires
-line-end-requires c κs = search needs
 
 returns-3 : tie.Need-returns-3
 returns-3 c =
@@ -82,16 +52,10 @@ pub curve-at-spec : {M : Type 1} → statement M
 curve-at-spec =
     tie.close
     (tie.spec
-    fields-at-requires
-    array-copy-out-count-of
-    array-copy-out-count-of-2
-    count-of-requires
-    enum-known-next
-    enum-told
-    no-curve-requires
+    (λ c κs. search needs) (λ c. search needs) (λ c. search needs) (λ c κs. search needs) (λ c. search needs) (λ c. search needs)
+    (λ c κs. search needs)
     returns
-    no-curve-requires-2
+    (λ c κs. search needs)
     returns-2
-    pairs-at-requires
-    line-end-requires
+    (λ c κs. search needs) (λ c κs. search needs)
     returns-3)

@@ -29,44 +29,11 @@ loop-holds : tie.Need-loop-holds Inv-loop μ-loop
 unfolding upTo
 loop-holds c = (search needs, pairs-none _ _, refl, refl)
 
-fields-at-requires : tie.Need-fields-at-requires Inv-loop μ-loop
-fields-at-requires c κs = search needs
-
-enum-known-next : tie.Need-enum-known-next Inv-loop μ-loop
-enum-known-next c = search needs
-
-enum-told : tie.Need-enum-told Inv-loop μ-loop
-enum-told c = search needs
-
 returns : tie.Need-returns Inv-loop μ-loop
 returns c =
     let l = c .before .before .before .before .loop in
     let test = c .before .before .before .loop-test .taken in
     pairs-break _ _ _ _ (l .inv .1) _ _ test (sym (fields-read 14 2 _ _ _ refl (c .before .before .fields-at .ensures) .next) ∙ c .enum-told .given .1) refl
-
-array-copy-out-t20 : tie.Need-array-copy-out-t20 Inv-loop μ-loop
-array-copy-out-t20 c = search needs
-
-mul-ends : tie.Need-mul-ends Inv-loop μ-loop
-mul-ends c = search needs
-
-array-set-from-ends : tie.Need-array-set-from-ends Inv-loop μ-loop
-array-set-from-ends c = search needs
-
-array-copy-out-t20-2 : tie.Need-array-copy-out-t20-2 Inv-loop μ-loop
-array-copy-out-t20-2 c = search needs
-
-mul-prices : tie.Need-mul-prices Inv-loop μ-loop
-mul-prices c = search needs
-
-array-set-from-prices : tie.Need-array-set-from-prices Inv-loop μ-loop
-array-set-from-prices c = search needs
-
-add-j : tie.Need-add-j Inv-loop μ-loop
-add-j c = search needs
-
-loop-less : tie.Need-loop-less Inv-loop μ-loop
-loop-less c = search needs
 
 loop-again : tie.Need-loop-again Inv-loop μ-loop
 loop-again c =
@@ -99,17 +66,9 @@ pairs-at-spec =
     Inv-loop
     μ-loop
     loop-holds
-    fields-at-requires
-    enum-known-next
-    enum-told
+    (λ c κs. search needs) (λ c. search needs) (λ c. search needs)
     returns
-    array-copy-out-t20
-    mul-ends
-    array-set-from-ends
-    array-copy-out-t20-2
-    mul-prices
-    array-set-from-prices
-    add-j
-    loop-less
+    (λ c. search needs) (λ c. search needs) (λ c. search needs) (λ c. search needs) (λ c. search needs) (λ c. search needs) (λ c. search needs)
+    (λ c. search needs)
     loop-again
     returns-2)

@@ -7,15 +7,6 @@ use Rattle.header.proofs.HeaderLines.{number-line, row-line, last-line}
 use Rattle.header.proofs.heads.line_at.Statement.{statement}
 use Rattle.header.proofs.heads.line_at.Tie as tie
 
-add-fields-at : tie.Need-add-fields-at
-add-fields-at c = search needs
-
-fields-at-requires : tie.Need-fields-at-requires
-fields-at-requires c κs = search needs
-
-line-end-requires : tie.Need-line-end-requires
-line-end-requires c κs = search needs
-
 returns : tie.Need-returns
 returns c =
     let n = c .before .before in
@@ -23,25 +14,10 @@ returns c =
     let fields = fields-read (48 + a .j) 1 _ _ _ (is-line (48 + a .j) 1 (omega arith) (omega arith)) (c .before .fields-at .ensures) in
     number-line (a .hours) (a .j) _ _ (n .if1 .taken) (line-is (48 + a .j) 1 _ _ _ _ (fields .next) (c .line-end .ensures))
 
-add-key-number : tie.Need-add-key-number
-add-key-number c = search needs
-
-key-number-requires : tie.Need-key-number-requires
-key-number-requires c κs = search needs
-
-digits-after-requires : tie.Need-digits-after-requires
-digits-after-requires c κs = search needs
-
-line-end-requires-2 : tie.Need-line-end-requires-2
-line-end-requires-2 c κs = search needs
-
 returns-2 : tie.Need-returns-2
 returns-2 c =
     let k = c .before .before in
     row-line _ _ _ _ (k .before .before .if1 .left) (k .before .if2 .taken) (k .key-number .ensures) (c .before .digits-after .ensures) (c .line-end2 .ensures)
-
-line-end-requires-3 : tie.Need-line-end-requires-3
-line-end-requires-3 c κs = search needs
 
 returns-3 : tie.Need-returns-3
 returns-3 c = last-line _ _ _ _ (c .before .if2 .left) (c .line-end3 .ensures)
@@ -50,14 +26,9 @@ pub line-at-spec : {M : Type 1} → statement M
 line-at-spec =
     tie.close
     (tie.spec
-    add-fields-at
-    fields-at-requires
-    line-end-requires
+    (λ c. search needs) (λ c κs. search needs) (λ c κs. search needs)
     returns
-    add-key-number
-    key-number-requires
-    digits-after-requires
-    line-end-requires-2
+    (λ c. search needs) (λ c κs. search needs) (λ c κs. search needs) (λ c κs. search needs)
     returns-2
-    line-end-requires-3
+    (λ c κs. search needs)
     returns-3)

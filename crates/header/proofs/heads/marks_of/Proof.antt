@@ -25,53 +25,23 @@ module _ (s : tie.Start) (j : ℕ) where
 abbrev isOne : ℤ → Bool
 isOne z = eqZ z (pos 1)
 
-array-read-number-of : tie.Need-array-read-number-of
-array-read-number-of c = search needs
-
-number-of-requires : tie.Need-number-of-requires
-number-of-requires c κs = search needs
-
-is-one-requires : tie.Need-is-one-requires
-is-one-requires c κs = search needs
-
-array-read-row-cat : tie.Need-array-read-row-cat
-array-read-row-cat c = search needs
-
 row-cat-requires : tie.Need-row-cat-requires
 row-cat-requires c κs = (line (c .before .before .before) 3 (omega arith), c .before .before .before .pre .1)
-
-array-read-row-word : tie.Need-array-read-row-word
-array-read-row-word c = search needs
 
 row-word-requires : tie.Need-row-word-requires
 row-word-requires c κs = row (c .before .before .before .before) 4 (omega arith) (omega arith)
 
-array-read-row-word-2 : tie.Need-array-read-row-word-2
-array-read-row-word-2 c = search needs
-
 row-word-requires-2 : tie.Need-row-word-requires-2
 row-word-requires-2 c κs = row (c .before .before .before .before .before) 5 (omega arith) (omega arith)
-
-array-read-row-word-3 : tie.Need-array-read-row-word-3
-array-read-row-word-3 c = search needs
 
 row-word-requires-3 : tie.Need-row-word-requires-3
 row-word-requires-3 c κs = row (c .before .before .before .before .before .before) 6 (omega arith) (omega arith)
 
-array-read-row-word-4 : tie.Need-array-read-row-word-4
-array-read-row-word-4 c = search needs
-
 row-word-requires-4 : tie.Need-row-word-requires-4
 row-word-requires-4 c κs = row (c .before .before .before .before .before .before .before) 7 (omega arith) (omega arith)
 
-array-read-row-word-5 : tie.Need-array-read-row-word-5
-array-read-row-word-5 c = search needs
-
 row-word-requires-5 : tie.Need-row-word-requires-5
 row-word-requires-5 c κs = row (c .before .before .before .before .before .before .before .before) 8 (omega arith) (omega arith)
-
-array-read-row-word-6 : tie.Need-array-read-row-word-6
-array-read-row-word-6 c = search needs
 
 row-word-requires-6 : tie.Need-row-word-requires-6
 row-word-requires-6 c κs = row (c .before .before .before .before .before .before .before .before .before) 9 (omega arith) (omega arith)
@@ -99,21 +69,18 @@ pub marks-of-spec : {M : Type 1} → statement M
 marks-of-spec =
     tie.close
     (tie.spec
-    array-read-number-of
-    number-of-requires
-    is-one-requires
-    array-read-row-cat
+    (λ c. search needs) (λ c κs. search needs) (λ c κs. search needs) (λ c. search needs)
     row-cat-requires
-    array-read-row-word
+    (λ c. search needs)
     row-word-requires
-    array-read-row-word-2
+    (λ c. search needs)
     row-word-requires-2
-    array-read-row-word-3
+    (λ c. search needs)
     row-word-requires-3
-    array-read-row-word-4
+    (λ c. search needs)
     row-word-requires-4
-    array-read-row-word-5
+    (λ c. search needs)
     row-word-requires-5
-    array-read-row-word-6
+    (λ c. search needs)
     row-word-requires-6
     returns)

@@ -11,15 +11,6 @@ use Rattle.header.proofs.HeaderRanges.{fits-mark}
 use Rattle.header.proofs.heads.number_fits.Statement.{statement}
 use Rattle.header.proofs.heads.number_fits.Tie as tie
 
-is-one-requires : tie.Need-is-one-requires
-is-one-requires c κs = search needs
-
-lies-in-requires : tie.Need-lies-in-requires
-lies-in-requires c κs = search needs
-
-lies-in-requires-2 : tie.Need-lies-in-requires-2
-lies-in-requires-2 c κs = search needs
-
 -- the number, as its bits hand it over
 value : (s : tie.Start) → held (s .args .x) ≡ s .args .x
 value s = handed (s .args .x) (s .fits .x .sfits)
@@ -36,6 +27,4 @@ returns-3 c =
     c .lies-in2 .ensures ∙ ap isMark (value s) ∙ sym (fits-mark (s .args .j) (s .args .x) (none-from (s .args .j) 0 2 (omega arith) (c .before .match .rest)))
 
 pub number-fits-spec : {M : Type 1} → statement M
-number-fits-spec =
-    tie.close
-    (tie.spec is-one-requires lies-in-requires lies-in-requires-2 returns returns-2 returns-3)
+number-fits-spec = tie.close (tie.spec (λ c κs. search needs) (λ c κs. search needs) (λ c κs. search needs) returns returns-2 returns-3)

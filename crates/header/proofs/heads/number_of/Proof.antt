@@ -7,15 +7,6 @@ use Rattle.lines.proofs.Lines.{is-line, fields-read}
 use Rattle.header.proofs.heads.number_of.Statement.{statement}
 use Rattle.header.proofs.heads.number_of.Tie as tie
 
-add-fields-at : tie.Need-add-fields-at
-add-fields-at c = search needs
-
-fields-at-requires : tie.Need-fields-at-requires
-fields-at-requires c κs = search needs
-
-array-copy-out-result : tie.Need-array-copy-out-result
-array-copy-out-result c = search needs
-
 returns : tie.Need-returns
 returns c =
     let f = c .before .before in
@@ -24,5 +15,4 @@ returns c =
     held-is _ _ (c .result .given) (fields .values 0 (omega arith))
 
 pub number-of-spec : {M : Type 1} → statement M
-number-of-spec =
-    tie.close (tie.spec add-fields-at fields-at-requires array-copy-out-result returns)
+number-of-spec = tie.close (tie.spec (λ c. search needs) (λ c κs. search needs) (λ c. search needs) returns)

@@ -21,30 +21,15 @@ abbrev μ-loop : tie.MeasureT-loop
 loop-holds : tie.Need-loop-holds Inv-loop μ-loop
 loop-holds c = (omega arith, below-none _)
 
-mul-in-range : tie.Need-mul-in-range Inv-loop μ-loop
-mul-in-range c = search needs
-
-array-read-in-range : tie.Need-array-read-in-range Inv-loop μ-loop
-array-read-in-range c = search needs
-
 in-range-requires : tie.Need-in-range-requires Inv-loop μ-loop
 in-range-requires c κs =
     let s = c .before .before .before in
     (stands (s .args .hours) (s .args .s .now) (s .args .t2) (c .before .loop .j) (s .pre) (omega arith), c .loop-test .taken)
 
-add-result : tie.Need-add-result Inv-loop μ-loop
-add-result c = search needs
-
 returns : tie.Need-returns Inv-loop μ-loop
 returns c =
     let l = c .before .before in
     range-fault _ _ (l .before .loop .j) (l .before .loop .inv .1) (l .loop-test .taken) (fails (c .before .in-range .ensures) (c .if1 .taken))
-
-add-j : tie.Need-add-j Inv-loop μ-loop
-add-j c = search needs
-
-loop-less : tie.Need-loop-less Inv-loop μ-loop
-loop-less c = search needs
 
 loop-again : tie.Need-loop-again Inv-loop μ-loop
 loop-again c = (omega arith, below-more _ _ (c .before .before .before .loop .inv .1) (passes (c .before .in-range .ensures) (c .if1 .left)))
@@ -59,12 +44,10 @@ odd-line-spec =
     Inv-loop
     μ-loop
     loop-holds
-    mul-in-range
-    array-read-in-range
+    (λ c. search needs) (λ c. search needs)
     in-range-requires
-    add-result
+    (λ c. search needs)
     returns
-    add-j
-    loop-less
+    (λ c. search needs) (λ c. search needs)
     loop-again
     returns-2)

@@ -8,9 +8,6 @@ use Rattle.header.proofs.Said.{start-inside, digits-are}
 use Rattle.header.proofs.heads.row_cat.Statement.{statement}
 use Rattle.header.proofs.heads.row_cat.Tie as tie
 
-row-start-requires : tie.Need-row-start-requires
-row-start-requires c κs = search needs
-
 cat-at-requires : tie.Need-cat-at-requires
 cat-at-requires c κs =
     let s = c .before .before in
@@ -24,4 +21,4 @@ returns c =
     ∙ ap (λ (f : ℕ → ℕ). filled (s .args .hours) 24 f 0) (digits-are (s .args .hours) 3 _ _ _ (s .pre .0) (r .row-start .ensures) (omega arith) (omega arith))
 
 pub row-cat-spec : {M : Type 1} → statement M
-row-cat-spec = tie.close (tie.spec row-start-requires cat-at-requires returns)
+row-cat-spec = tie.close (tie.spec (λ c κs. search needs) cat-at-requires returns)

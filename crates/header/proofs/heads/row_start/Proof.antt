@@ -5,18 +5,6 @@ use Rattle.lines.specs.Line.{placeIn}
 use Rattle.header.proofs.heads.row_start.Statement.{statement}
 use Rattle.header.proofs.heads.row_start.Tie as tie
 
-add-key-number : tie.Need-add-key-number
-add-key-number c = search needs
-
-key-number-requires : tie.Need-key-number-requires
-key-number-requires c κs = search needs
-
-enum-known-start : tie.Need-enum-known-start
-enum-known-start c = search needs
-
-enum-told : tie.Need-enum-told
-enum-told c = search needs
-
 returns : tie.Need-returns
 returns c = sym (ap placeIn (sym (c .before .before .before .key-number .ensures) ∙ c .before .start .given .1))
 
@@ -24,6 +12,4 @@ returns-2 : tie.Need-returns-2
 returns-2 c = sym (ap placeIn (sym (c .before .before .key-number .ensures) ∙ c .enum-told .given .1))
 
 pub row-start-spec : {M : Type 1} → statement M
-row-start-spec =
-    tie.close
-    (tie.spec add-key-number key-number-requires enum-known-start enum-told returns returns-2)
+row-start-spec = tie.close (tie.spec (λ c. search needs) (λ c κs. search needs) (λ c. search needs) (λ c. search needs) returns returns-2)

@@ -9,9 +9,6 @@ use Rattle.header.proofs.Said.{start-inside, digits-are}
 use Rattle.header.proofs.heads.row_word.Statement.{statement}
 use Rattle.header.proofs.heads.row_word.Tie as tie
 
-row-start-requires : tie.Need-row-start-requires
-row-start-requires c κs = search needs
-
 word-at-requires : tie.Need-word-at-requires
 word-at-requires c κs =
     let s = c .before .before in
@@ -26,4 +23,4 @@ returns c =
     ∙ ap (λ (f : ℕ → ℕ). word (s .args .hours) (λ h. eqb (f h) 1)) (digits-are (s .args .hours) (s .args .j) _ _ _ (s .pre .0) (r .row-start .ensures) (s .pre .1) (s .pre .2))
 
 pub row-word-spec : {M : Type 1} → statement M
-row-word-spec = tie.close (tie.spec row-start-requires word-at-requires returns)
+row-word-spec = tie.close (tie.spec (λ c κs. search needs) word-at-requires returns)

@@ -20,14 +20,8 @@ abbrev μ-loop : tie.MeasureT-loop
 loop-holds : tie.Need-loop-holds Inv-loop μ-loop
 loop-holds c = (omega arith, omega arith, all-none _)
 
-digit-at-requires : tie.Need-digit-at-requires Inv-loop μ-loop
-digit-at-requires c κs = search needs
-
 cast-is-marked : tie.Need-cast-is-marked Inv-loop μ-loop
 cast-is-marked c = omega (arith, c .digit-at .ensures .1)
-
-is-marked-requires : tie.Need-is-marked-requires Inv-loop μ-loop
-is-marked-requires c κs = search needs
 
 returns : tie.Need-returns Inv-loop μ-loop
 returns c =
@@ -39,12 +33,6 @@ add-i : tie.Need-add-i Inv-loop μ-loop
 add-i c =
     let d = c .before .before in
     omega (arith, admitted-inside _ _ _ (d .before .before .before .before .pre) (d .digit-at .ensures .0) (passes (c .before .is-marked .ensures) (c .if1 .left)))
-
-add-h : tie.Need-add-h Inv-loop μ-loop
-add-h c = search needs
-
-loop-less : tie.Need-loop-less Inv-loop μ-loop
-loop-less c = search needs
 
 loop-again : tie.Need-loop-again Inv-loop μ-loop
 loop-again c =
@@ -68,12 +56,11 @@ all-admitted-spec =
     Inv-loop
     μ-loop
     loop-holds
-    digit-at-requires
+    (λ c κs. search needs)
     cast-is-marked
-    is-marked-requires
+    (λ c κs. search needs)
     returns
     add-i
-    add-h
-    loop-less
+    (λ c. search needs) (λ c. search needs)
     loop-again
     returns-2)

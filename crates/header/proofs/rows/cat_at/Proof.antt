@@ -20,23 +20,8 @@ loop-holds : tie.Need-loop-holds Inv-loop μ-loop
 unfolding upTo
 loop-holds c = (omega arith, refl)
 
-add-digit-at : tie.Need-add-digit-at Inv-loop μ-loop
-add-digit-at c = search needs
-
-digit-at-requires : tie.Need-digit-at-requires Inv-loop μ-loop
-digit-at-requires c κs = search needs
-
 cast-cat : tie.Need-cast-cat Inv-loop μ-loop
 cast-cat c = omega (arith, c .digit-at .ensures .1)
-
-array-write-cat : tie.Need-array-write-cat Inv-loop μ-loop
-array-write-cat c = search needs
-
-add-h : tie.Need-add-h Inv-loop μ-loop
-add-h c = search needs
-
-loop-less : tie.Need-loop-less Inv-loop μ-loop
-loop-less c = search needs
 
 loop-again : tie.Need-loop-again Inv-loop μ-loop
 loop-again c = (omega arith, fill-next _ _ _ 24 (omega arith) (c .before .before .loop .inv .1) (c .digit-at .ensures .0))
@@ -54,11 +39,8 @@ cat-at-spec =
     Inv-loop
     μ-loop
     loop-holds
-    add-digit-at
-    digit-at-requires
+    (λ c. search needs) (λ c κs. search needs)
     cast-cat
-    array-write-cat
-    add-h
-    loop-less
+    (λ c. search needs) (λ c. search needs) (λ c. search needs)
     loop-again
     returns)

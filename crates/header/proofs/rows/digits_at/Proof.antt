@@ -20,9 +20,6 @@ abbrev μ-loop : tie.MeasureT-loop
 loop-holds : tie.Need-loop-holds Inv-loop μ-loop
 loop-holds c = (omega arith, omega arith, all-none _)
 
-digit-at-requires : tie.Need-digit-at-requires Inv-loop μ-loop
-digit-at-requires c κs = search needs
-
 returns : tie.Need-returns Inv-loop μ-loop
 returns c =
     let l = c .before .before .before .loop in
@@ -30,12 +27,6 @@ returns c =
 
 add-i : tie.Need-add-i Inv-loop μ-loop
 add-i c = omega (arith, digit-inside _ _ (λ e. c .if1 .left (c .before .digit-at .ensures .0 ∙ e)))
-
-add-count : tie.Need-add-count Inv-loop μ-loop
-add-count c = search needs
-
-loop-less : tie.Need-loop-less Inv-loop μ-loop
-loop-less c = search needs
 
 loop-again : tie.Need-loop-again Inv-loop μ-loop
 loop-again c =
@@ -56,10 +47,9 @@ digits-at-spec =
     Inv-loop
     μ-loop
     loop-holds
-    digit-at-requires
+    (λ c κs. search needs)
     returns
     add-i
-    add-count
-    loop-less
+    (λ c. search needs) (λ c. search needs)
     loop-again
     returns-2)

@@ -21,24 +21,6 @@ abbrev μ-loop : tie.MeasureT-loop
 loop-holds : tie.Need-loop-holds Inv-loop μ-loop
 loop-holds c = (omega arith, sym (word-none _))
 
-add-digit-at : tie.Need-add-digit-at Inv-loop μ-loop
-add-digit-at c = search needs
-
-digit-at-requires : tie.Need-digit-at-requires Inv-loop μ-loop
-digit-at-requires c κs = search needs
-
-cast-row : tie.Need-cast-row Inv-loop μ-loop
-cast-row c = search needs
-
-shl-row : tie.Need-shl-row Inv-loop μ-loop
-shl-row c = search needs
-
-add-h : tie.Need-add-h Inv-loop μ-loop
-add-h c = search needs
-
-loop-less : tie.Need-loop-less Inv-loop μ-loop
-loop-less c = search needs
-
 loop-again : tie.Need-loop-again Inv-loop μ-loop
 loop-again c =
     let d = c .before .digit-at .ensures .0 in
@@ -63,11 +45,6 @@ word-at-spec =
     Inv-loop
     μ-loop
     loop-holds
-    add-digit-at
-    digit-at-requires
-    cast-row
-    shl-row
-    add-h
-    loop-less
+    (λ c. search needs) (λ c κs. search needs) (λ c. search needs) (λ c. search needs) (λ c. search needs) (λ c. search needs)
     loop-again
     returns)

@@ -32,43 +32,13 @@ module _ (c : tie.After-known-told) where
   line2-at : lineAt 38 3 (text in1) (begins in1) ≡ At (c .before .next .given .0 .0)
   line2-at = line1 in1 ∙ c .before .next .given .1
 
-fields-at-requires : tie.Need-fields-at-requires
-fields-at-requires c κs = search needs
-
-line-end-requires : tie.Need-line-end-requires
-line-end-requires c κs = search needs
-
-enum-known-next : tie.Need-enum-known-next
-enum-known-next c = search needs
-
-enum-told : tie.Need-enum-told
-enum-told c = search needs
-
-broken-block-requires : tie.Need-broken-block-requires
-broken-block-requires c κs = search needs
-
 returns : tie.Need-returns
 returns c = block-line1 _ _ _ (line1 (c .before .before .before) ∙ c .before .enum-told .given .1) (c .broken-block .ensures)
-
-rows-at-requires : tie.Need-rows-at-requires
-rows-at-requires c κs = search needs
-
-broken-block-requires-2 : tie.Need-broken-block-requires-2
-broken-block-requires-2 c κs = search needs
 
 returns-2 : tie.Need-returns-2
 returns-2 c =
     let r = c .before .before in
     block-row _ _ _ (line2-at (r .before)) _ (r .rows-at .ensures) _ (c .before .if1 .taken) (c .broken-block2 .ensures)
-
-array-copy-out-t15 : tie.Need-array-copy-out-t15
-array-copy-out-t15 c = search needs
-
-array-copy-out-t18 : tie.Need-array-copy-out-t18
-array-copy-out-t18 c = search needs
-
-array-copy-out-t22 : tie.Need-array-copy-out-t22
-array-copy-out-t22 c = search needs
 
 returns-3 : tie.Need-returns-3
 returns-3 c =
@@ -84,16 +54,9 @@ pub read-block-spec : {M : Type 1} → statement M
 read-block-spec =
     tie.close
     (tie.spec
-    fields-at-requires
-    line-end-requires
-    enum-known-next
-    enum-told
-    broken-block-requires
+    (λ c κs. search needs) (λ c κs. search needs) (λ c. search needs) (λ c. search needs) (λ c κs. search needs)
     returns
-    rows-at-requires
-    broken-block-requires-2
+    (λ c κs. search needs) (λ c κs. search needs)
     returns-2
-    array-copy-out-t15
-    array-copy-out-t18
-    array-copy-out-t22
+    (λ c. search needs) (λ c. search needs) (λ c. search needs)
     returns-3)

@@ -31,52 +31,16 @@ line : (c : tie.After-line-end Inv-loop μ-loop)
     → lineAt 41 7 (c .before .before .before .before .before .before .before .before .args .s .now) (c .before .before .before .before .before .loop .i) ≡ c .line-end .result
 line c = line-is 41 7 _ _ _ _ (fields c .next) (c .line-end .ensures)
 
-blank-curtailed-requires : tie.Need-blank-curtailed-requires Inv-loop μ-loop
-blank-curtailed-requires c κs = search needs
-
 loop-holds : tie.Need-loop-holds Inv-loop μ-loop
 loop-holds c = rows-begin 41 7 2 30 curtailedOf blankCurtailed _ _ _ (c .blank-curtailed .ensures)
 
-is-closed-requires : tie.Need-is-closed-requires Inv-loop μ-loop
-is-closed-requires c κs = search needs
-
 returns : tie.Need-returns Inv-loop μ-loop
 returns c = rows-over 41 7 2 30 curtailedOf blankCurtailed _ _ _ _ _ (c .before .before .before .loop .inv) (open-line (c .before)) (omega arith) (c .if2 .taken)
-
-fields-at-requires : tie.Need-fields-at-requires Inv-loop μ-loop
-fields-at-requires c κs = search needs
-
-line-end-requires : tie.Need-line-end-requires Inv-loop μ-loop
-line-end-requires c κs = search needs
-
-enum-known-next : tie.Need-enum-known-next Inv-loop μ-loop
-enum-known-next c = search needs
-
-enum-told : tie.Need-enum-told Inv-loop μ-loop
-enum-told c = search needs
-
-add-t15 : tie.Need-add-t15 Inv-loop μ-loop
-add-t15 c = search needs
 
 returns-2 : tie.Need-returns-2 Inv-loop μ-loop
 returns-2 c =
     let t = c .before .before .before .before in
     rows-break 41 7 2 30 curtailedOf blankCurtailed _ _ _ _ _ (t .before .before .before .loop .inv) (open-line (t .before)) (t .if2 .left) (omega arith) (line (c .before .before) ∙ c .enum-told .given .1)
-
-curtailed-of-requires : tie.Need-curtailed-of-requires Inv-loop μ-loop
-curtailed-of-requires c κs = search needs
-
-mul-iv : tie.Need-mul-iv Inv-loop μ-loop
-mul-iv c = search needs
-
-array-set-from-iv : tie.Need-array-set-from-iv Inv-loop μ-loop
-array-set-from-iv c = search needs
-
-add-n : tie.Need-add-n Inv-loop μ-loop
-add-n c = search needs
-
-loop-less : tie.Need-loop-less Inv-loop μ-loop
-loop-less c = search needs
 
 loop-again : tie.Need-loop-again Inv-loop μ-loop
 loop-again c =
@@ -94,20 +58,12 @@ rows-at-spec =
     (tie.spec
     Inv-loop
     μ-loop
-    blank-curtailed-requires
+    (λ c κs. search needs)
     loop-holds
-    is-closed-requires
+    (λ c κs. search needs)
     returns
-    fields-at-requires
-    line-end-requires
-    enum-known-next
-    enum-told
-    add-t15
+    (λ c κs. search needs) (λ c κs. search needs) (λ c. search needs) (λ c. search needs) (λ c. search needs)
     returns-2
-    curtailed-of-requires
-    mul-iv
-    array-set-from-iv
-    add-n
-    loop-less
+    (λ c κs. search needs) (λ c. search needs) (λ c. search needs) (λ c. search needs) (λ c. search needs)
     loop-again
     returns-3)

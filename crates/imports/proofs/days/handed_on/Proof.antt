@@ -4,12 +4,6 @@ use Rattle.imports.proofs.Added.{refusal, no-refusal}
 use Rattle.imports.proofs.days.handed_on.Statement.{statement}
 use Rattle.imports.proofs.days.handed_on.Tie as tie
 
-enum-known-answer : tie.Need-enum-known-answer
-enum-known-answer c = search needs
-
-enum-told : tie.Need-enum-told
-enum-told c = search needs
-
 returns : tie.Need-returns
 returns c = refusal _ _ _ (c .before .answer .given .1)
 
@@ -17,4 +11,4 @@ returns-2 : tie.Need-returns-2
 returns-2 c = no-refusal _ _ _ (c .enum-told .given .1)
 
 pub handed-on-spec : {M : Type 1} → statement M
-handed-on-spec = tie.close (tie.spec enum-known-answer enum-told returns returns-2)
+handed-on-spec = tie.close (tie.spec (λ c. search needs) (λ c. search needs) returns returns-2)

@@ -21,23 +21,8 @@ module _ (c : tie.After-read-block) where
   read-is : c .read-block .result ≡ readOf (importBlockAt (drop (begun .args .at) (begun .args .s .now)) 0)
   read-is = c .read-block .ensures ∙ ap (λ (l : List ℕ). readOf (importBlockAt l 0)) (lent-to-the-end (begun .args .s .now) (begun .args .at))
 
-sub-rest : tie.Need-sub-rest
-sub-rest c = search needs
-
-part-rest-start : tie.Need-part-rest-start
-part-rest-start c = search needs
-
-part-rest-end : tie.Need-part-rest-end
-part-rest-end c = search needs
-
-read-block-requires : tie.Need-read-block-requires
-read-block-requires c κs = search needs
-
 returns : tie.Need-returns
 returns c = part-broken _ _ _ _ (read-is (c .before)) (c .if1 .taken)
-
-import-part-requires : tie.Need-import-part-requires
-import-part-requires c κs = search needs
 
 returns-2 : tie.Need-returns-2
 returns-2 c =
@@ -50,10 +35,7 @@ pub settle-block-spec : {M : Type 1} → statement M
 settle-block-spec =
     tie.close
     (tie.spec
-    sub-rest
-    part-rest-start
-    part-rest-end
-    read-block-requires
+    (λ c. search needs) (λ c. search needs) (λ c. search needs) (λ c κs. search needs)
     returns
-    import-part-requires
+    (λ c κs. search needs)
     returns-2)

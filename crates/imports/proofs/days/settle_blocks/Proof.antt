@@ -34,15 +34,6 @@ loop-holds c = (omega arith, none-added _ _ _ (c .before .pre .0))
 settle-block-requires : tie.Need-settle-block-requires Inv-loop μ-loop
 settle-block-requires c κs = c .before .loop .inv .1 .inside
 
-enum-known-answer : tie.Need-enum-known-answer Inv-loop μ-loop
-enum-known-answer c = search needs
-
-enum-told : tie.Need-enum-told Inv-loop μ-loop
-enum-told c = search needs
-
-handed-on-requires : tie.Need-handed-on-requires Inv-loop μ-loop
-handed-on-requires c κs = search needs
-
 returns : tie.Need-returns Inv-loop μ-loop
 returns c =
     let b = c .before .before .before in
@@ -64,15 +55,6 @@ plus-requires c κs =
       here-within _ _ _ _ _ _ (L .inv .1) _ (b .settle-block .ensures) _ (ap worthTold (c .before .answer .given .1)),
     )
 
-piece-after-requires : tie.Need-piece-after-requires Inv-loop μ-loop
-piece-after-requires c κs = search needs
-
-add-k : tie.Need-add-k Inv-loop μ-loop
-add-k c = search needs
-
-loop-less : tie.Need-loop-less Inv-loop μ-loop
-loop-less c = search needs
-
 loop-again : tie.Need-loop-again Inv-loop μ-loop
 loop-again c =
     let k = c .before .before in
@@ -93,9 +75,6 @@ returns-2 c =
     let s = c .before .before .before .before in
     all-surplus _ _ _ _ _ _ (rw (all (c .before)) at (L .inv .1)) _ (c .if1 .taken) ∙ ap (settled _ _) (day-is s)
 
-cents-of-requires : tie.Need-cents-of-requires Inv-loop μ-loop
-cents-of-requires c κs = search needs
-
 returns-3 : tie.Need-returns-3 Inv-loop μ-loop
 returns-3 c =
     let k = c .before .before in
@@ -112,15 +91,11 @@ settle-blocks-spec =
     μ-loop
     loop-holds
     settle-block-requires
-    enum-known-answer
-    enum-told
-    handed-on-requires
+    (λ c. search needs) (λ c. search needs) (λ c κs. search needs)
     returns
     plus-requires
-    piece-after-requires
-    add-k
-    loop-less
+    (λ c κs. search needs) (λ c. search needs) (λ c. search needs)
     loop-again
     returns-2
-    cents-of-requires
+    (λ c κs. search needs)
     returns-3)

@@ -7,12 +7,6 @@ use Rattle.tariff.specs.Import.{isName, isMark}
 use Rattle.imports.proofs.head.in_range.Statement.{statement}
 use Rattle.imports.proofs.head.in_range.Tie as tie
 
-lies-in-requires : tie.Need-lies-in-requires
-lies-in-requires c κs = search needs
-
-lies-in-requires-2 : tie.Need-lies-in-requires-2
-lies-in-requires-2 c κs = search needs
-
 -- the first call's answer is that of the name, as its bits hand it over
 name-is : (c : tie.After-lies-in) (b : Bool) → c .lies-in .result ≡ b → isName (c .before .args .name) ≡ b
 name-is c b e = sym (ap isName (handed (c .before .args .name) (c .before .fits .name .sfits))) ∙ sym (c .lies-in .ensures) ∙ e
@@ -27,4 +21,4 @@ returns-2 : tie.Need-returns-2
 returns-2 c = rw (name-is (c .before) _ (c .if1 .left))
 
 pub in-range-spec : {M : Type 1} → statement M
-in-range-spec = tie.close (tie.spec lies-in-requires lies-in-requires-2 returns returns-2)
+in-range-spec = tie.close (tie.spec (λ c κs. search needs) (λ c κs. search needs) returns returns-2)

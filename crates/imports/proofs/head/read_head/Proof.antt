@@ -56,64 +56,19 @@ ranges c =
     (held-is _ _ (c .before .before .in-range-arg .given) (v 0 (omega arith)))
     (held-is _ _ (c .before .in-range-arg2 .given) (v 1 (omega arith)))
 
-fields-at-requires : tie.Need-fields-at-requires
-fields-at-requires c κs = search needs
-
-line-end-requires : tie.Need-line-end-requires
-line-end-requires c κs = search needs
-
-enum-known-second : tie.Need-enum-known-second
-enum-known-second c = search needs
-
-enum-told : tie.Need-enum-told
-enum-told c = search needs
-
-refused-requires : tie.Need-refused-requires
-refused-requires c κs = search needs
-
 returns : tie.Need-returns
 returns c = head-line1 _ _ (line1 (c .before .before .before) ∙ c .before .enum-told .given .1) (c .refused .ensures)
-
-line-end-requires-2 : tie.Need-line-end-requires-2
-line-end-requires-2 c κs = search needs
-
-enum-known-next : tie.Need-enum-known-next
-enum-known-next c = search needs
-
-enum-told-2 : tie.Need-enum-told-2
-enum-told-2 c = search needs
-
-refused-requires-2 : tie.Need-refused-requires-2
-refused-requires-2 c κs = search needs
 
 returns-2 : tie.Need-returns-2
 returns-2 c =
     let k = c .before .before .before in
     head-line2 _ _ (line2-at (k .before)) _ (sym (k .line-end2 .ensures) ∙ c .before .enum-told2 .given .1) (c .refused2 .ensures)
 
-array-copy-out-in-range : tie.Need-array-copy-out-in-range
-array-copy-out-in-range c = search needs
-
-array-copy-out-in-range-2 : tie.Need-array-copy-out-in-range-2
-array-copy-out-in-range-2 c = search needs
-
-in-range-requires : tie.Need-in-range-requires
-in-range-requires c κs = search needs
-
-refused-requires-3 : tie.Need-refused-requires-3
-refused-requires-3 c κs = search needs
-
 returns-3 : tie.Need-returns-3
 returns-3 c =
     let r = c .before .before in
     let k = r .before .before .before in
     head-range _ _ (line2-at (in2 k)) _ (body-at k) _ (fails (ranges r) (c .before .if1 .taken)) (c .refused3 .ensures)
-
-array-copy-out-t15 : tie.Need-array-copy-out-t15
-array-copy-out-t15 c = search needs
-
-array-copy-out-t18 : tie.Need-array-copy-out-t18
-array-copy-out-t18 c = search needs
 
 returns-4 : tie.Need-returns-4
 returns-4 c =
@@ -127,22 +82,11 @@ pub read-head-spec : {M : Type 1} → statement M
 read-head-spec =
     tie.close
     (tie.spec
-    fields-at-requires
-    line-end-requires
-    enum-known-second
-    enum-told
-    refused-requires
+    (λ c κs. search needs) (λ c κs. search needs) (λ c. search needs) (λ c. search needs) (λ c κs. search needs)
     returns
-    line-end-requires-2
-    enum-known-next
-    enum-told-2
-    refused-requires-2
+    (λ c κs. search needs) (λ c. search needs) (λ c. search needs) (λ c κs. search needs)
     returns-2
-    array-copy-out-in-range
-    array-copy-out-in-range-2
-    in-range-requires
-    refused-requires-3
+    (λ c. search needs) (λ c. search needs) (λ c κs. search needs) (λ c κs. search needs)
     returns-3
-    array-copy-out-t15
-    array-copy-out-t18
+    (λ c. search needs) (λ c. search needs)
     returns-4)

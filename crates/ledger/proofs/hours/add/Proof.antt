@@ -39,18 +39,6 @@ module _ (c : tie.After-struct-told2) where
       rounded-most (told (start .args .answer)) (hourSum .0) (hourCents .0) (start .pre .1)
       (ap told (c .before .before .before .before .before .answer .given .1)) sum-fits
 
-enum-told : tie.Need-enum-told
-enum-told c = search needs
-
-enum-known-total : tie.Need-enum-known-total
-enum-known-total c = search needs
-
-enum-told-2 : tie.Need-enum-told-2
-enum-told-2 c = search needs
-
-enum-known-answer : tie.Need-enum-known-answer
-enum-known-answer c = search needs
-
 add-t7 : tie.Need-add-t7
 add-t7 c = fits tt (is-add (leaf tt (sofar-most c)) (leaf tt (cents-most c)))
 
@@ -70,14 +58,4 @@ returns-3 c =
     (cents-most c) (gives tt (is-add (leaf tt (sofar-most c)) (leaf tt (cents-most c))))
 
 pub add-spec : {M : Type 1} → statement M
-add-spec =
-    tie.close
-    (tie.spec
-    enum-told
-    enum-known-total
-    enum-told-2
-    enum-known-answer
-    add-t7
-    returns
-    returns-2
-    returns-3)
+add-spec = tie.close (tie.spec (λ c. search needs) (λ c. search needs) (λ c. search needs) (λ c. search needs) add-t7 returns returns-2 returns-3)

@@ -36,34 +36,10 @@ module _ (c : tie.After-settle-place Inv-loop μ-loop) where
 loop-holds : tie.Need-loop-holds Inv-loop μ-loop
 loop-holds c = let a = c .before .args in (omega arith, gone-none (a .s .now) (a .at) (a .excluded) _ (c .before .pre .0))
 
-cast-hour : tie.Need-cast-hour Inv-loop μ-loop
-cast-hour c = search needs
-
-is-marked-requires : tie.Need-is-marked-requires Inv-loop μ-loop
-is-marked-requires c κs = search needs
-
-settle-place-requires : tie.Need-settle-place-requires Inv-loop μ-loop
-settle-place-requires c κs = search needs
-
-mul-places : tie.Need-mul-places Inv-loop μ-loop
-mul-places c = search needs
-
-array-set-from-places : tie.Need-array-set-from-places Inv-loop μ-loop
-array-set-from-places c = search needs
-
 add-requires : tie.Need-add-requires Inv-loop μ-loop
 add-requires c κs =
     let l = c .before .before .before .loop in
     (most-more (omega arith) (l .inv .1 .most), block-rounded _ _ _ (c .settle-place .result) (reply-is c))
-
-piece-after-requires : tie.Need-piece-after-requires Inv-loop μ-loop
-piece-after-requires c κs = search needs
-
-add-k : tie.Need-add-k Inv-loop μ-loop
-add-k c = search needs
-
-loop-less : tie.Need-loop-less Inv-loop μ-loop
-loop-less c = search needs
 
 loop-again : tie.Need-loop-again Inv-loop μ-loop
 loop-again c =
@@ -97,15 +73,9 @@ settle-hours-spec =
     Inv-loop
     μ-loop
     loop-holds
-    cast-hour
-    is-marked-requires
-    settle-place-requires
-    mul-places
-    array-set-from-places
+    (λ c. search needs) (λ c κs. search needs) (λ c κs. search needs) (λ c. search needs) (λ c. search needs)
     add-requires
-    piece-after-requires
-    add-k
-    loop-less
+    (λ c κs. search needs) (λ c. search needs) (λ c. search needs)
     loop-again
     returns
     returns-2)

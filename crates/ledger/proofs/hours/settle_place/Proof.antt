@@ -4,24 +4,6 @@ use Rattle.ledger.proofs.Walks.{lent-reply}
 use Rattle.ledger.proofs.hours.settle_place.Statement.{statement}
 use Rattle.ledger.proofs.hours.settle_place.Tie as tie
 
-sub-block : tie.Need-sub-block
-sub-block c = search needs
-
-part-block-start : tie.Need-part-block-start
-part-block-start c = search needs
-
-part-block-end : tie.Need-part-block-end
-part-block-end c = search needs
-
-cast-hour : tie.Need-cast-hour
-cast-hour c = search needs
-
-slice-aggregate-settle-block : tie.Need-slice-aggregate-settle-block
-slice-aggregate-settle-block c = search needs
-
-settle-block-requires : tie.Need-settle-block-requires
-settle-block-requires c κs = search needs
-
 returns : tie.Need-returns
 returns c =
     let b = c .before .before .before .before .before in
@@ -32,10 +14,5 @@ pub settle-place-spec : {M : Type 1} → statement M
 settle-place-spec =
     tie.close
     (tie.spec
-    sub-block
-    part-block-start
-    part-block-end
-    cast-hour
-    slice-aggregate-settle-block
-    settle-block-requires
+    (λ c. search needs) (λ c. search needs) (λ c. search needs) (λ c. search needs) (λ c. search needs) (λ c κs. search needs)
     returns)

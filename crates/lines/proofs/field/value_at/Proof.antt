@@ -9,27 +9,15 @@ use Rattle.text.proofs.Numbers.{byte-inside}
 use Rattle.lines.proofs.field.value_at.Statement.{statement}
 use Rattle.lines.proofs.field.value_at.Tie as tie
 
-number-at-requires : tie.Need-number-at-requires
-number-at-requires c κs = search needs
-
 returns : tie.Need-returns
 unfolding valueAt
 returns c = simp (ne-eqb _ _ (c .if1 .taken)) (c .before .number-at .ensures)
-
-enum-told : tie.Need-enum-told
-enum-told c = search needs
 
 returns-2 : tie.Need-returns-2
 unfolding valueAt
 returns-2 c =
     let n = c .before .before in
     simp (eq-eqb _ _ (n .if1 .left), sym (n .before .number-at .ensures) ∙ c .enum-told .given .1) (c .enum-told .given .1)
-
-enum-told-2 : tie.Need-enum-told-2
-enum-told-2 c = search needs
-
-byte-at-requires : tie.Need-byte-at-requires
-byte-at-requires c κs = search needs
 
 add-t8 : tie.Need-add-t8
 add-t8 c =
@@ -64,12 +52,11 @@ pub value-at-spec : {M : Type 1} → statement M
 value-at-spec =
     tie.close
     (tie.spec
-    number-at-requires
+    (λ c κs. search needs)
     returns
-    enum-told
+    (λ c. search needs)
     returns-2
-    enum-told-2
-    byte-at-requires
+    (λ c. search needs) (λ c κs. search needs)
     add-t8
     returns-3
     returns-4)

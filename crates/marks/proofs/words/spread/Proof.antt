@@ -4,11 +4,8 @@ use Rattle.marks.proofs.Spread.{spread-word}
 use Rattle.marks.proofs.words.spread.Statement.{statement}
 use Rattle.marks.proofs.words.spread.Tie as tie
 
-whole-requires : tie.Need-whole-requires
-whole-requires c κs = search needs
-
 returns : tie.Need-returns
 returns c = let a = c .before .args in spread-word (a .row) (a .hours) (c .before .pre) (c .whole .result) (c .whole .ensures)
 
 pub spread-spec : {M : Type 1} → statement M
-spread-spec = tie.close (tie.spec whole-requires returns)
+spread-spec = tie.close (tie.spec (λ c κs. search needs) returns)

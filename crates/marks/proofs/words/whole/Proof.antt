@@ -5,9 +5,6 @@ use Rattle.marks.proofs.Rows.{one-at}
 use Rattle.marks.proofs.words.whole.Statement.{statement}
 use Rattle.marks.proofs.words.whole.Tie as tie
 
-shl-result : tie.Need-shl-result
-shl-result c = search needs
-
 sub-result : tie.Need-sub-result
 sub-result c = rw (one-at (c .args .hours) (c .pre)) (pow-pos (c .args .hours))
 
@@ -15,4 +12,4 @@ returns : tie.Need-returns
 returns c = rw (one-at (c .args .hours) (c .pre))
 
 pub whole-spec : {M : Type 1} → statement M
-whole-spec = tie.close (tie.spec shl-result sub-result returns)
+whole-spec = tie.close (tie.spec (λ c. search needs) sub-result returns)

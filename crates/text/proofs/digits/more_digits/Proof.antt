@@ -27,9 +27,6 @@ abbrev μ-loop : tie.MeasureT-loop
 loop-holds : tie.Need-loop-holds Inv-loop μ-loop
 loop-holds c = (refl, c .before .pre, omega arith)
 
-byte-at-requires : tie.Need-byte-at-requires Inv-loop μ-loop
-byte-at-requires c κs = search needs
-
 returns : tie.Need-returns Inv-loop μ-loop
 returns c =
     let l = c .before .before .before .loop in
@@ -55,12 +52,6 @@ add-i c =
     let l = d .before .before in
     omega (arith, read-inside (l .before .before .args .s .now) (l .loop .i) _ (d .byte-at .ensures) (c .if2 .left))
 
-sub-left : tie.Need-sub-left Inv-loop μ-loop
-sub-left c = search needs
-
-loop-less : tie.Need-loop-less Inv-loop μ-loop
-loop-less c = search needs
-
 loop-again : tie.Need-loop-again Inv-loop μ-loop
 loop-again c =
     let d = c .before .before in
@@ -81,13 +72,12 @@ more-digits-spec =
     Inv-loop
     μ-loop
     loop-holds
-    byte-at-requires
+    (λ c κs. search needs)
     returns
     returns-2
     mul-v
     add-v
     add-i
-    sub-left
-    loop-less
+    (λ c. search needs) (λ c. search needs)
     loop-again
     returns-3)

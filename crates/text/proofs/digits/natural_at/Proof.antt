@@ -6,9 +6,6 @@ use Rattle.text.proofs.Numbers.{read-inside, below-digits, above-digits
 use Rattle.text.proofs.digits.natural_at.Statement.{statement}
 use Rattle.text.proofs.digits.natural_at.Tie as tie
 
-byte-at-requires : tie.Need-byte-at-requires
-byte-at-requires c κs = search needs
-
 returns : tie.Need-returns
 returns c = (sym (no-natural _ _ (below-digits _ _ _ (c .before .byte-at .ensures) (c .if1 .taken))), tt)
 
@@ -32,9 +29,6 @@ add-more-digits c =
     let a = d .before .before .args in
     omega (arith, read-inside (a .s .now) (a .at) _ (d .byte-at .ensures) (c .before .if2 .left))
 
-more-digits-requires : tie.Need-more-digits-requires
-more-digits-requires c κs = omega arith
-
 returns-4 : tie.Need-returns-4
 returns-4 c =
     let d = c .before .before .before in
@@ -42,14 +36,4 @@ returns-4 c =
     (c .more-digits .ensures .0 ∙ sym more, c .more-digits .ensures .1)
 
 pub natural-at-spec : {M : Type 1} → statement M
-natural-at-spec =
-    tie.close
-    (tie.spec
-    byte-at-requires
-    returns
-    returns-2
-    add-t5
-    returns-3
-    add-more-digits
-    more-digits-requires
-    returns-4)
+natural-at-spec = tie.close (tie.spec (λ c κs. search needs) returns returns-2 add-t5 returns-3 add-more-digits (λ c κs. omega arith) returns-4)

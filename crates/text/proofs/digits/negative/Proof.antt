@@ -4,9 +4,6 @@ use Rattle.text.proofs.Numbers.{negative-fits, negative-is}
 use Rattle.text.proofs.digits.negative.Statement.{statement}
 use Rattle.text.proofs.digits.negative.Tie as tie
 
-cast-z : tie.Need-cast-z
-cast-z c = search needs
-
 sub-result : tie.Need-sub-result
 sub-result c = negative-fits _ (c .pre)
 
@@ -14,4 +11,4 @@ returns : tie.Need-returns
 returns c = negative-is _ (c .pre)
 
 pub negative-spec : {M : Type 1} → statement M
-negative-spec = tie.close (tie.spec cast-z sub-result returns)
+negative-spec = tie.close (tie.spec (λ c. search needs) sub-result returns)

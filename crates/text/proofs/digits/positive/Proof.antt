@@ -4,11 +4,8 @@ use Rattle.text.proofs.Numbers.{positive-is}
 use Rattle.text.proofs.digits.positive.Statement.{statement}
 use Rattle.text.proofs.digits.positive.Tie as tie
 
-cast-result : tie.Need-cast-result
-cast-result c = search needs
-
 returns : tie.Need-returns
 returns c = positive-is _ (c .pre)
 
 pub positive-spec : {M : Type 1} → statement M
-positive-spec = tie.close (tie.spec cast-result returns)
+positive-spec = tie.close (tie.spec (λ c. search needs) returns)
