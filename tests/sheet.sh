@@ -10,9 +10,10 @@
 #   <!-- answer: PROGRAM NAME [NAME] -->      what is printed for it: for the
 #       first name alone, or for it and 24 times the second, saying hours 0 to
 #       23. `...` stands for any lines.
-#   <!-- keys: NAME lines A to B, keys K.. -->   the rows are the reader's keys
-#       with these numbers, and stand on these lines of the listing. K=L is a row
-#       for both.
+#   <!-- keys: NAME lines A to B, keys K.. -->   the rows are these keys of the
+#       reader, and stand on these lines of the listing. K is a kind of line, for
+#       all of its keys in their order, or one key of it, KIND.N; K=L is a row for
+#       both.
 # The last line counts what passed and what failed; the status is 1 if anything
 # failed.
 . "$(dirname -- "$0")/common.sh"
@@ -30,13 +31,13 @@ page=$root/docs/sheet.md
 # rows: the table's number, listing, first and last line, key, unit, range.
 : >"$work/answers"
 : >"$work/rows"
-: >"$work/numbers"
+: >"$work/kinds"
 awk -v dir="$work" '
 /^<!-- listing: / { file = dir "/listing." $3; next }
 /^<!-- answer: / { file = dir "/answer." ++n; print n, $3, $4, $5 == "-->" ? "" : $5 >(dir "/answers"); next }
 /^<!-- keys: / {
     name = $3; from = $5; to = $7 + 0; table = 1
-    for (i = 9; $i != "-->"; i++) print $i >(dir "/numbers")
+    for (i = 9; $i != "-->"; i++) print $i >(dir "/kinds")
     next
 }
 /^```/ { inside = file != "" && !inside; if (inside) printf "" >file; else { if (file != "") close(file); file = "" } next }
@@ -101,15 +102,16 @@ while read -r n program first blocks; do
     fi
 done <"$work/answers"
 
-# --- The keys: number and key of the reader's table, the numbers of the page's
-# rows, and the page's keys in their order.
-cat "$root"/crates/*/src/*.rt | sed -n 's/^ *\([0-9_]*\) => .*key_at(.*b" *\([a-z0-9]*\)=").*/\1 \2/p' |
-    awk '{ number = $1 == "_" ? last + 1 : $1; last = number; print number, $2 }' | sort -n >"$work/reader"
-if [ "$(awk '$1 != NR - 1' "$work/reader" | wc -l)" -ne 0 ] || [ ! -s "$work/reader" ]; then
-    fail "the reader's table of keys was not found in crates/*/src"
-fi
+# --- The keys: KIND.N and key of the reader's table, and those of the page's rows.
+awk '/^pub fn [a-z]*_key\(/ { kind = $3; sub(/_key\(.*/, "", kind); n = 0 }
+    /=> text::key_at\(/ { key = $0; sub(/.*b" */, "", key); sub(/=".*/, "", key); print kind "." n++, key }' \
+    "$root/crates/keys/src/table.rt" >"$work/reader"
+[ -s "$work/reader" ] || fail "the reader's table of keys was not found in crates/keys/src/table.rt"
+awk 'NR == FNR { kind = $1; sub(/\..*/, "", kind); all[kind] = all[kind] $1 "\n"; next }
+    { if ($1 in all) printf "%s", all[$1]; else print $1 }' "$work/reader" "$work/kinds" >"$work/numbers"
 paste -d ' ' "$work/numbers" "$work/rows" | awk '{ n = split($1, k, "="); for (i = 1; i <= n; i++) print k[i], $5 }' |
-    sort -n >"$work/keys"
+    sort >"$work/keys"
+sort -o "$work/reader" "$work/reader"
 if cmp -s "$work/reader" "$work/keys"; then
     pass
 else

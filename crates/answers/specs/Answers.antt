@@ -3,13 +3,13 @@ use mathlib.Core.List.{List, [], _∷_, _++_}
 use Prim.Native.Nat.{ℕ, suc}
 use lib.IntN.{ℤ, pos}
 use Rattle.tariff.specs.Reply.{Reply, paid, refused, Verdict, clear, fault}
-use Rattle.tariff.specs.Total.{Sum, total, none}
+use Rattle.tariff.specs.Total.{Sum, total, noTotal}
 use Rattle.tariff.specs.Import as import
-use Rattle.text.specs.Text.{bytes}
+use Rattle.text.specs.Text.{LF, bytes}
 use Rattle.page.specs.Numerals.{counted, valued}
 
 abbrev pub feed : List ℕ
-feed = 10 ∷ []
+feed = LF ∷ []
 
 abbrev pub refusedLine : (number place : ℕ) → List ℕ
 refusedLine number place = counted (bytes "refused=") number ++ counted (bytes " at=") place ++ feed
@@ -40,7 +40,7 @@ hourLine k (refused number place) = counted (bytes "hour=") k ++ bytes " " ++ re
 
 abbrev pub totalLine : Sum → List ℕ
 totalLine (total cents) = valued (bytes "total=") cents ++ feed
-totalLine none = bytes "total=-\n"
+totalLine noTotal = bytes "total=-\n"
 
 abbrev pub dayLines : Verdict → List Reply → Sum → List ℕ
 dayLines clear replies sum = numbered hourLine 0 replies ++ totalLine sum
@@ -48,11 +48,10 @@ dayLines (fault number place) replies sum = refusedLine number place
 
 -- ---- an import: the payment, or the refusal with its hour
 
-abbrev pub hourOrNone : import.Where → List ℕ
-hourOrNone import.outside = bytes " hour=-"
-hourOrNone (import.inHour k) = counted (bytes " hour=") k
+abbrev pub refusedIn : (hour : List ℕ) → (number place : ℕ) → List ℕ
+refusedIn hour number place = counted (bytes "refused=") number ++ hour ++ counted (bytes " at=") place ++ feed
 
 abbrev pub importLine : import.ImportReply → List ℕ
 importLine (import.paid name grains cents) = payLine (bytes "import=") name cents
-importLine (import.refused number hour place) =
-    counted (bytes "refused=") number ++ hourOrNone hour ++ counted (bytes " at=") place ++ feed
+importLine (import.refused number (import.outside place)) = refusedIn (bytes " hour=-") number place
+importLine (import.refused number (import.inHour hour place)) = refusedIn (counted (bytes " hour=") hour) number place

@@ -2,24 +2,24 @@
 use mathlib.Core.Path.{_≡_, refl}
 use mathlib.Core.List.{[], _∷_}
 use lib.IntN.{pos, negsuc}
-use Rattle.tariff.specs.Reply.{paid, refused, clear, fault}
+use Rattle.tariff.specs.Reply.{paid, refused, ORDER, SECONDS, clear, fault}
 use Rattle.tariff.specs.Import as import
 use Rattle.text.specs.Text.{bytes}
 use Rattle.text.specs.Decimal.{natural}
-use Rattle.tariff.specs.Total.{total, none}
+use Rattle.tariff.specs.Total.{total, noTotal}
 use Rattle.answers.specs.Answers.{numbered, answerText, dayLines, importLine}
 
-pub listing : answerText (pos 14) (pos 27000000000 ∷ pos 72900000000 ∷ negsuc 8999999999 ∷ pos 0 ∷ []) (paid (pos 90900000000) (pos 25250))
+pub listing-printed : answerText (pos 14) (pos 27000000000 ∷ pos 72900000000 ∷ negsuc 8999999999 ∷ pos 0 ∷ []) (paid (pos 90900000000) (pos 25250))
     ≡ bytes "i=1 grains=27000000000\ni=2 grains=72900000000\ni=3 grains=-9000000000\ni=4 grains=0\nhour=14 pay=25250\n"
 unfolding natural numbered
-listing = refl
+listing-printed = refl
 
 pub reach-at-1 : answerText (pos 14) [] (refused 7 1) ≡ bytes "refused=7 at=1\n"
 unfolding natural
 reach-at-1 = refl
 
 -- a day of two hours, one refused; and one whose header is
-pub two-hours : dayLines clear (paid (pos 0) (pos 25250) ∷ refused 1 34 ∷ []) none ≡ bytes "hour=0 pay=25250\nhour=1 refused=1 at=34\ntotal=-\n"
+pub two-hours : dayLines clear (paid (pos 0) (pos 25250) ∷ refused 1 34 ∷ []) noTotal ≡ bytes "hour=0 pay=25250\nhour=1 refused=1 at=34\ntotal=-\n"
 unfolding natural numbered
 two-hours = refl
 
@@ -27,7 +27,7 @@ pub one-hour : dayLines clear (paid (pos 3600000) (pos 1) ∷ []) (total (pos 1)
 unfolding natural numbered
 one-hour = refl
 
-pub bad-header : dayLines (fault 2 3) [] none ≡ bytes "refused=2 at=3\n"
+pub bad-header : dayLines (fault 2 3) [] noTotal ≡ bytes "refused=2 at=3\n"
 unfolding natural
 bad-header = refl
 
@@ -35,10 +35,10 @@ pub import-paid : importLine (import.paid (pos 42) (pos 0) (pos 120)) ≡ bytes 
 unfolding natural
 import-paid = refl
 
-pub import-refused : importLine (import.refused 5 (import.inHour 23) 0) ≡ bytes "refused=5 hour=23 at=0\n"
+pub import-refused : importLine (import.refused SECONDS (import.inHour 23 0)) ≡ bytes "refused=5 hour=23 at=0\n"
 unfolding natural
 import-refused = refl
 
-pub import-surplus : importLine (import.refused 3 import.outside 0) ≡ bytes "refused=3 hour=- at=0\n"
+pub import-surplus : importLine (import.refused ORDER (import.outside 0)) ≡ bytes "refused=3 hour=- at=0\n"
 unfolding natural
 import-surplus = refl

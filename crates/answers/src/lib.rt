@@ -1,4 +1,4 @@
-// The lines of each kind of answer, from a place of a lent row on. A key is a fixed byte string, as document 01 prints it.
+// The lines of each kind of answer, from a place of a lent page on. A key is a fixed byte string, as document 01 prints it.
 ghost use mathlib.Core.List.{_++_};
 ghost use lib.ListN.{take};
 ghost use Rattle.tariff.specs.Reply.{told, shown, numberOf, placeOf};
@@ -12,45 +12,45 @@ use tariff::Answer;
 use tariff::Cents;
 use tariff::Check;
 use tariff::Found;
+use tariff::HourAnswer;
 use tariff::ImportAnswer;
 use tariff::ImportFault;
-use tariff::Place;
 use tariff::Total;
 
 // The place of a refusal ends its line.
-fn put_place(row: &mut [u8], at: usize, place: usize) -> usize
-    ensures { λ r. ⌜ Put (now (row .entry)) at (counted (bytes " at=") place ++ feed) (now (row .exit)) r ⌝ }
+fn put_place(page: &mut [u8], at: usize, place: usize) -> usize
+    ensures { λ r. ⌜ Put (now (page .entry)) at (counted (bytes " at=") place ++ feed) (now (page .exit)) r ⌝ }
 {
-    let behind_place = page::put_count(row, at, b" at=", place as u64);
-    page::put(row, behind_place, b"\n")
+    let behind_place = page::put_count(page, at, b" at=", place as u64);
+    page::put(page, behind_place, b"\n")
 }
 
-fn put_refusal(row: &mut [u8], at: usize, check: Check) -> usize
-    ensures { λ r. ⌜ Put (now (row .entry)) at (refusedLine (numberOf check) (placeOf check)) (now (row .exit)) r ⌝ }
+fn put_refusal(page: &mut [u8], at: usize, check: Check) -> usize
+    ensures { λ r. ⌜ Put (now (page .entry)) at (refusedLine (numberOf check) (placeOf check)) (now (page .exit)) r ⌝ }
 {
-    let behind_number = page::put_count(row, at, b"refused=", tariff::number_of(check));
-    put_place(row, behind_number, tariff::place_of(check))
+    let behind_number = page::put_count(page, at, b"refused=", tariff::number_of(check));
+    put_place(page, behind_number, tariff::place_of(check))
 }
 
-fn put_pay(row: &mut [u8], at: usize, key: &[u8], name: i64, cents: Cents) -> usize
-    ensures { λ r. ⌜ Put (now (row .entry)) at (payLine (now (key .entry)) name (cents .0)) (now (row .exit)) r ⌝ }
+fn put_pay(page: &mut [u8], at: usize, key: &[u8], name: i64, cents: Cents) -> usize
+    ensures { λ r. ⌜ Put (now (page .entry)) at (payLine (now (key .entry)) name (cents .0)) (now (page .exit)) r ⌝ }
 {
-    let behind_name = page::put_signed(row, at, key, name);
-    let behind_pay = page::put_signed(row, behind_name, b" pay=", cents.0);
-    page::put(row, behind_pay, b"\n")
+    let behind_name = page::put_signed(page, at, key, name);
+    let behind_pay = page::put_signed(page, behind_name, b" pay=", cents.0);
+    page::put(page, behind_pay, b"\n")
 }
 
-fn put_interval(row: &mut [u8], at: usize, i: usize, grains: i64) -> usize
-    ensures { λ r. ⌜ Put (now (row .entry)) at (intervalLine i grains) (now (row .exit)) r ⌝ }
+fn put_interval(page: &mut [u8], at: usize, i: usize, grains: i64) -> usize
+    ensures { λ r. ⌜ Put (now (page .entry)) at (intervalLine i grains) (now (page .exit)) r ⌝ }
 {
-    let behind_number = page::put_count(row, at, b"i=", i as u64);
-    let behind_grains = page::put_signed(row, behind_number, b" grains=", grains);
-    page::put(row, behind_grains, b"\n")
+    let behind_number = page::put_count(page, at, b"i=", i as u64);
+    let behind_grains = page::put_signed(page, behind_number, b" grains=", grains);
+    page::put(page, behind_grains, b"\n")
 }
 
 // A line for each of the first n contributions, or for all if there are fewer.
-fn put_intervals(row: &mut [u8], at: usize, grains: &[i64], n: usize) -> usize
-    ensures { λ r. ⌜ Put (now (row .entry)) at (numbered intervalLine 1 (take n (now (grains .entry)))) (now (row .exit)) r ⌝ }
+fn put_intervals(page: &mut [u8], at: usize, grains: &[i64], n: usize) -> usize
+    ensures { λ r. ⌜ Put (now (page .entry)) at (numbered intervalLine 1 (take n (now (grains .entry)))) (now (page .exit)) r ⌝ }
 {
     let mut next = at;
     let mut i: usize = 0;
@@ -58,7 +58,7 @@ fn put_intervals(row: &mut [u8], at: usize, grains: &[i64], n: usize) -> usize
         if n <= i {
             return next;
         }
-        next = put_interval(row, next, i + 1, grains[i]);
+        next = put_interval(page, next, i + 1, grains[i]);
         i += 1;
     }
     next
@@ -66,114 +66,120 @@ fn put_intervals(row: &mut [u8], at: usize, grains: &[i64], n: usize) -> usize
 
 // What `hour` prints of an answer.
 pub fn put_answer(
-    row: &mut [u8],
+    page: &mut [u8],
     at: usize,
     hour: i64,
     grains: &[i64],
     n: usize,
     answer: Answer,
 ) -> usize
-    ensures { λ r. ⌜ Put (now (row .entry)) at (answerText hour (take n (now (grains .entry))) (told answer)) (now (row .exit)) r ⌝ }
+    ensures { λ r. ⌜ Put (now (page .entry)) at (answerText hour (take n (now (grains .entry))) (told answer)) (now (page .exit)) r ⌝ }
 {
     match answer {
-        Answer::Refused(check) => put_refusal(row, at, check),
+        Answer::Refused(check) => put_refusal(page, at, check),
         Answer::Paid(_, cents) => {
-            let behind_intervals = put_intervals(row, at, grains, n);
-            put_pay(row, behind_intervals, b"hour=", hour, cents)
+            let behind_intervals = put_intervals(page, at, grains, n);
+            put_pay(page, behind_intervals, b"hour=", hour, cents)
         }
     }
 }
 
-fn put_hour(row: &mut [u8], at: usize, k: usize, answer: Answer) -> usize
-    ensures { λ r. ⌜ Put (now (row .entry)) at (hourLine k (told answer)) (now (row .exit)) r ⌝ }
+fn put_hour(page: &mut [u8], at: usize, k: usize, answer: Answer) -> usize
+    ensures { λ r. ⌜ Put (now (page .entry)) at (hourLine k (told answer)) (now (page .exit)) r ⌝ }
 {
-    let behind_hour = page::put_count(row, at, b"hour=", k as u64);
+    let behind_hour = page::put_count(page, at, b"hour=", k as u64);
     match answer {
         Answer::Paid(_, cents) => {
-            let behind_pay = page::put_signed(row, behind_hour, b" pay=", cents.0);
-            page::put(row, behind_pay, b"\n")
+            let behind_pay = page::put_signed(page, behind_hour, b" pay=", cents.0);
+            page::put(page, behind_pay, b"\n")
         }
         Answer::Refused(check) => {
-            let behind_space = page::put(row, behind_hour, b" ");
-            put_refusal(row, behind_space, check)
+            let behind_space = page::put(page, behind_hour, b" ");
+            put_refusal(page, behind_space, check)
         }
     }
 }
 
-fn put_hours(row: &mut [u8], at: usize, hours: [Place; 24]) -> usize
-    ensures { λ r. ⌜ Put (now (row .entry)) at (numbered hourLine 0 (toldAll hours)) (now (row .exit)) r ⌝ }
+fn put_hours(page: &mut [u8], at: usize, hours: [HourAnswer; 24]) -> usize
+    ensures { λ r. ⌜ Put (now (page .entry)) at (numbered hourLine 0 (toldAll hours)) (now (page .exit)) r ⌝ }
 {
     let mut next = at;
     let mut k: usize = 0;
     while k < 24 {
         let place = hours[k];
         let answer = place.answer;
-        next = put_hour(row, next, k, answer);
+        next = put_hour(page, next, k, answer);
         k += 1;
     }
     next
 }
 
-fn put_total(row: &mut [u8], at: usize, total: Total) -> usize
-    ensures { λ r. ⌜ Put (now (row .entry)) at (totalLine (toldTotal total)) (now (row .exit)) r ⌝ }
+fn put_total(page: &mut [u8], at: usize, total: Total) -> usize
+    ensures { λ r. ⌜ Put (now (page .entry)) at (totalLine (toldTotal total)) (now (page .exit)) r ⌝ }
 {
     match total {
         Total::Of(cents) => {
-            let behind_cents = page::put_signed(row, at, b"total=", cents.0);
-            page::put(row, behind_cents, b"\n")
+            let behind_cents = page::put_signed(page, at, b"total=", cents.0);
+            page::put(page, behind_cents, b"\n")
         }
-        Total::Withheld => page::put(row, at, b"total=-\n"),
+        Total::Withheld => page::put(page, at, b"total=-\n"),
     }
 }
 
 // What `day` prints: a line for each block place and then the total, or a refused header's refusal alone.
-pub fn put_day(row: &mut [u8], at: usize, header: Found, hours: [Place; 24], total: Total) -> usize
-    ensures { λ r. ⌜ Put (now (row .entry)) at (dayLines (shown header) (toldAll hours) (toldTotal total)) (now (row .exit)) r ⌝ }
+pub fn put_day(
+    page: &mut [u8],
+    at: usize,
+    header: Found,
+    hours: [HourAnswer; 24],
+    total: Total,
+) -> usize
+    ensures { λ r. ⌜ Put (now (page .entry)) at (dayLines (shown header) (toldAll hours) (toldTotal total)) (now (page .exit)) r ⌝ }
 {
     match header {
-        Found::Fault(check) => put_refusal(row, at, check),
+        Found::Fault(check) => put_refusal(page, at, check),
         Found::Nothing => {
-            let behind_hours = put_hours(row, at, hours);
-            put_total(row, behind_hours, total)
+            let behind_hours = put_hours(page, at, hours);
+            put_total(page, behind_hours, total)
         }
     }
 }
 
 // A refusal in no hour: of the first two lines, or for bytes behind the last block.
-fn put_outside(row: &mut [u8], at: usize, number: u64, place: usize) -> usize
-    ensures { λ r. ⌜ Put (now (row .entry)) at (importLine (refused number outside place)) (now (row .exit)) r ⌝ }
+fn put_outside(page: &mut [u8], at: usize, number: u64, place: usize) -> usize
+    ensures { λ r. ⌜ Put (now (page .entry)) at (importLine (refused number (outside place))) (now (page .exit)) r ⌝ }
 {
-    let behind_number = page::put_count(row, at, b"refused=", number);
-    let behind_none = page::put(row, behind_number, b" hour=-");
-    put_place(row, behind_none, place)
+    let behind_number = page::put_count(page, at, b"refused=", number);
+    let behind_none = page::put(page, behind_number, b" hour=-");
+    put_place(page, behind_none, place)
 }
 
-fn put_inside(row: &mut [u8], at: usize, hour: usize, check: Check) -> usize
-    ensures { λ r. ⌜ Put (now (row .entry)) at (importLine (refused (numberOf check) (inHour hour) (placeOf check))) (now (row .exit)) r ⌝ }
+fn put_inside(page: &mut [u8], at: usize, hour: usize, check: Check) -> usize
+    ensures { λ r. ⌜ Put (now (page .entry)) at (importLine (refused (numberOf check) (inHour hour (placeOf check)))) (now (page .exit)) r ⌝ }
 {
-    let behind_number = page::put_count(row, at, b"refused=", tariff::number_of(check));
-    let behind_hour = page::put_count(row, behind_number, b" hour=", hour as u64);
-    put_place(row, behind_hour, tariff::place_of(check))
+    let behind_number = page::put_count(page, at, b"refused=", tariff::number_of(check));
+    let behind_hour = page::put_count(page, behind_number, b" hour=", hour as u64);
+    put_place(page, behind_hour, tariff::place_of(check))
 }
 
-fn put_fault(row: &mut [u8], at: usize, fault: ImportFault) -> usize
-    ensures { λ r. ⌜ Put (now (row .entry)) at (importLine (importFaultTold fault)) (now (row .exit)) r ⌝ }
+fn put_fault(page: &mut [u8], at: usize, fault: ImportFault) -> usize
+    ensures { λ r. ⌜ Put (now (page .entry)) at (importLine (importFaultTold fault)) (now (page .exit)) r ⌝ }
 {
     match fault {
         ImportFault::Head(check) => {
-            put_outside(row, at, tariff::number_of(check), tariff::place_of(check))
+            put_outside(page, at, tariff::number_of(check), tariff::place_of(check))
         }
-        ImportFault::Block(hour, check) => put_inside(row, at, hour, check),
-        ImportFault::Surplus => put_outside(row, at, 3, 0),
+        ImportFault::Block(hour, check) => put_inside(page, at, hour, check),
+        ImportFault::Surplus => put_outside(page, at, 3, 0),
     }
 }
 
 // What `import` prints: the payment, or the refusal with its hour.
-pub fn put_import(row: &mut [u8], at: usize, answer: ImportAnswer) -> usize
-    ensures { λ r. ⌜ Put (now (row .entry)) at (importLine (importTold answer)) (now (row .exit)) r ⌝ }
+pub fn put_import(page: &mut [u8], at: usize, answer: ImportAnswer) -> usize
+    ensures { λ r. ⌜ Put (now (page .entry)) at (importLine (importTold answer)) (now (page .exit)) r ⌝ }
 {
     match answer {
-        ImportAnswer::Refused(fault) => put_fault(row, at, fault),
-        ImportAnswer::Paid(name, _, cents) => put_pay(row, at, b"import=", name, cents),
+        ImportAnswer::Refused(fault) => put_fault(page, at, fault),
+        ImportAnswer::Paid(name, _, cents) => put_pay(page, at, b"import=", name, cents),
     }
 }

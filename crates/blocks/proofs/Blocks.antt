@@ -5,96 +5,90 @@ use Prim.Native.Nat.{ℕ}
 use native.Mathlib.Omega.{arith}
 use borrow.Author.Tests.{eq-eqb, ne-eqb}
 use lib.IntN.{ℤ}
+use Rattle.exact.proofs.Apart.{impossible}
 use Rattle.tariff.specs.declared.Curve.{Curve}
 use Rattle.tariff.specs.declared.DayAhead.{DayAhead}
-use Rattle.tariff.specs.declared.Hour.{Hour}
 use Rattle.text.specs.declared.Next.{Next}
 use Rattle.text.specs.declared.Next.the-variants.{At, Wrong}
-use Rattle.blocks.specs.declared.rows.RowsRead.{RowsRead}
+use Rattle.blocks.specs.declared.series.SeriesRead.{SeriesRead}
 use Rattle.blocks.specs.declared.BlockRead.{BlockRead}
-use Rattle.lines.specs.Line.{valueIn, lineAt}
-use Rattle.lines.specs.Rows.{Rows, counted, brokenRow, rowsAt}
-use Rattle.lines.proofs.Rows.{rows-line}
+use Rattle.keys.specs.Keys.{AHEAD, DA, RT}
+use Rattle.lines.specs.Line.{valueIn}
+use Rattle.lines.specs.Series.{Series, lineCount, brokenLine}
+use Rattle.lines.proofs.Series.{series-line}
 use Rattle.records.specs.Records.{aheadOf}
-use Rattle.blocks.specs.CurveLine.{curveLine, curveOf}
-use Rattle.blocks.specs.Block.{RowsReadAt, Block, broken, read, withRows, afterLine3, afterLine2, afterLine1, blockAt, blockOf, readOf}
-
--- ---- the cases of a reading are apart
-
-not-read : (h : Hour) (line : ℕ) → read h ≡ broken line → ⊥
-not-read h line e = let z : _≡_ {A = ℕ} 0 1 = cc in omega arith
-
-line-of : (k l : ℕ) → broken k ≡ broken l → k ≡ l
-line-of k l e = cc
+use Rattle.blocks.specs.CurveLine.{curveLine, curveSaid}
+use Rattle.blocks.specs.Told.{SeriesReadAt}
+use Rattle.blocks.specs.Block.{aheadLine, intervalLine, intervalLines, Block, broken, read, withSeries, afterLine3, afterLine2, afterLine1, blockAt, blockOf, hourReadOf}
 
 -- ---- the lines, one by one
 
 module _ (s : List ℕ) (from : ℕ) where
   -- the code names a line
-  told : {line : ℕ} {r : BlockRead} → r ≡ readOf (broken line) → blockAt s from ≡ broken line → r ≡ readOf (blockAt s from)
-  told e b = e ∙ sym (ap readOf b)
+  told : {line : ℕ} {r : BlockRead} → r ≡ hourReadOf (broken line) → blockAt s from ≡ broken line → r ≡ hourReadOf (blockAt s from)
+  told e b = e ∙ sym (ap hourReadOf b)
 
-  pub block-line1 : (r : BlockRead) → lineAt 0 10 s from ≡ Wrong → r ≡ readOf (broken 1) → r ≡ readOf (blockAt s from)
+  pub block-line1 : (r : BlockRead) → aheadLine s from ≡ Wrong → r ≡ hourReadOf (broken 1) → r ≡ hourReadOf (blockAt s from)
   unfolding blockAt
   block-line1 r f e = told e (rw f)
 
-  module _ (p1 : ℕ) (e1 : lineAt 0 10 s from ≡ At p1) where
-    pub block-line2 : (r : BlockRead) → curveLine 10 s p1 ≡ Wrong → r ≡ readOf (broken 2) → r ≡ readOf (blockAt s from)
+  module _ (p1 : ℕ) (e1 : aheadLine s from ≡ At p1) where
+    pub block-line2 : (r : BlockRead) → curveLine DA s p1 ≡ Wrong → r ≡ hourReadOf (broken 2) → r ≡ hourReadOf (blockAt s from)
     unfolding blockAt
     block-line2 r f e = told e (rw (e1, f))
 
-    module _ (p2 : ℕ) (e2 : curveLine 10 s p1 ≡ At p2) where
-      pub block-line3 : (r : BlockRead) → curveLine 12 s p2 ≡ Wrong → r ≡ readOf (broken 3) → r ≡ readOf (blockAt s from)
+    module _ (p2 : ℕ) (e2 : curveLine DA s p1 ≡ At p2) where
+      pub block-line3 : (r : BlockRead) → curveLine RT s p2 ≡ Wrong → r ≡ hourReadOf (broken 3) → r ≡ hourReadOf (blockAt s from)
       unfolding blockAt
       block-line3 r f e = told e (rw (e1, e2, f))
 
-      module _ (p3 : ℕ) (e3 : curveLine 12 s p2 ≡ At p3) (rows : RowsRead) (h : RowsReadAt s p3 rows) where
-        pub block-row : (r : BlockRead) → (rows .broken ≡ 0 → ⊥) → r ≡ readOf (broken (rows .broken)) → r ≡ readOf (blockAt s from)
+      module _ (p3 : ℕ) (e3 : curveLine RT s p2 ≡ At p3) (series : SeriesRead) (h : SeriesReadAt s p3 series) where
+        pub block-series : (r : BlockRead) → (series .broken ≡ 0 → ⊥) → r ≡ hourReadOf (broken (series .broken)) → r ≡ hourReadOf (blockAt s from)
         unfolding blockAt
-        block-row r n e = told e (rw (e1, e2, e3, ← h .told, ne-eqb (rows .broken) 0 n))
+        block-series r n e = told e (rw (e1, e2, e3, ← h .told, ne-eqb (series .broken) 0 n))
 
-        pub block-read : (hour : ℤ) (ahead : DayAhead) (da rt : Curve) → rows .broken ≡ 0
-            → hour ≡ valueIn 0 s from 0 → ahead ≡ aheadOf (valueIn 0 s from) → da ≡ curveOf 10 s p1 → rt ≡ curveOf 12 s p2
-            → readOf (read (record { hour = hour; ahead = ahead; da = da; rt = rt; n = rows .n; iv = rows .iv })) ≡ readOf (blockAt s from)
+        pub block-read : (hour : ℤ) (ahead : DayAhead) (da rt : Curve) → series .broken ≡ 0
+            → hour ≡ valueIn AHEAD s from 0 → ahead ≡ aheadOf (valueIn AHEAD s from) → da ≡ curveSaid DA s p1 → rt ≡ curveSaid RT s p2
+            → hourReadOf (read (record { hour = hour; ahead = ahead; da = da; rt = rt; n = series .n; iv = series .iv })) ≡ hourReadOf (blockAt s from)
         unfolding blockAt
         block-read hour ahead da rt z a b c d =
-            let same : read (record { hour = hour; ahead = ahead; da = da; rt = rt; n = rows .n; iv = rows .iv }) ≡ blockAt s from =
-            rw (e1, e2, e3, ← h .told, eq-eqb (rows .broken) 0 z, a, b, c, d, h .rows z) in
-            ap readOf same
+            let same : read (record { hour = hour; ahead = ahead; da = da; rt = rt; n = series .n; iv = series .iv }) ≡ blockAt s from =
+            rw (e1, e2, e3, ← h .told, eq-eqb (series .broken) 0 z, a, b, c, d, h .series z) in
+            ap hourReadOf same
 
 -- ---- lines count from 1
 
 pub no-line-0 : (s : List ℕ) (from : ℕ) → blockAt s from ≡ broken 0 → ⊥
 unfolding blockAt
-no-line-0 s from = line1 (lineAt 0 10 s from)
+no-line-0 s from = line1 (aheadLine s from)
   where
-    rows : (v : ℕ → ℤ) (da rt : Curve) (at : ℕ) (r : Rows) → (r ≡ brokenRow 0 → ⊥) → withRows v da rt s at r ≡ broken 0 → ⊥
-    rows v da rt at (counted n) never e = not-read _ 0 e
-    rows v da rt at (brokenRow line) never e = never (ap brokenRow (line-of line 0 e))
+    series : (v : ℕ → ℤ) (da rt : Curve) (at : ℕ) (r : Series) → (r ≡ brokenLine 0 → ⊥) → withSeries v da rt s at r ≡ broken 0 → ⊥
+    series v da rt at (lineCount n) never e = impossible cc
+    series v da rt at (brokenLine line) never e = never (ap brokenLine (cc))
 
     line3 : (next : Next) (v : ℕ → ℤ) (da rt : Curve) → afterLine3 next v da rt s ≡ broken 0 → ⊥
-    line3 Wrong v da rt e = let z = line-of 3 0 e in omega arith
-    line3 (At at) v da rt e = rows v da rt at (rowsAt 16 20 4 30 s at 0) (rows-line 16 20 3 30 s at 0) e
+    line3 Wrong v da rt e = let z : _≡_ {A = ℕ} 3 0 = cc in omega arith
+    line3 (At at) v da rt e = series v da rt at (intervalLines s at) (series-line intervalLine 4 30 s at (omega arith)) e
 
     line2 : (next : Next) (v : ℕ → ℤ) (da : Curve) → afterLine2 next v da s ≡ broken 0 → ⊥
-    line2 Wrong v da e = let z = line-of 2 0 e in omega arith
-    line2 (At at) v da e = line3 (curveLine 12 s at) v da (curveOf 12 s at) e
+    line2 Wrong v da e = let z : _≡_ {A = ℕ} 2 0 = cc in omega arith
+    line2 (At at) v da e = line3 (curveLine RT s at) v da (curveSaid RT s at) e
 
     line1 : (next : Next) → afterLine1 next s from ≡ broken 0 → ⊥
-    line1 Wrong e = let z = line-of 1 0 e in omega arith
-    line1 (At at) e = line2 (curveLine 10 s at) (valueIn 0 s from) (curveOf 10 s at) e
+    line1 Wrong e = let z : _≡_ {A = ℕ} 1 0 = cc in omega arith
+    line1 (At at) e = line2 (curveLine DA s at) (valueIn AHEAD s from) (curveSaid DA s at) e
 
 -- ---- what the code's reading says of a block that is lent
 
-read-broken : (b : Block) (r : BlockRead) → r ≡ readOf b → (r .broken ≡ 0 → ⊥) → b ≡ broken (r .broken)
+read-broken : (b : Block) (r : BlockRead) → r ≡ hourReadOf b → (r .broken ≡ 0 → ⊥) → b ≡ broken (r .broken)
 read-broken (broken line) r e n = ap broken (sym (ap (λ (x : BlockRead). x .broken) e))
 read-broken (read h) r e n = absurd (n (ap (λ (x : BlockRead). x .broken) e))
 
-read-is : (b : Block) (r : BlockRead) → r ≡ readOf b → (b ≡ broken 0 → ⊥) → r .broken ≡ 0 → b ≡ read (r .hour)
+read-is : (b : Block) (r : BlockRead) → r ≡ hourReadOf b → (b ≡ broken 0 → ⊥) → r .broken ≡ 0 → b ≡ read (r .hour)
 read-is (broken line) r e never z = absurd (never (ap broken (sym (ap (λ (x : BlockRead). x .broken) e) ∙ z)))
 read-is (read h) r e never z = ap read (sym (ap (λ (x : BlockRead). x .hour) e))
 
-module _ (s : List ℕ) (r : BlockRead) (e : r ≡ readOf (blockOf s)) where
+module _ (s : List ℕ) (r : BlockRead) (e : r ≡ hourReadOf (blockOf s)) where
   pub block-broken : (r .broken ≡ 0 → ⊥) → blockOf s ≡ broken (r .broken)
   block-broken = read-broken (blockOf s) r e
 

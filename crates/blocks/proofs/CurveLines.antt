@@ -2,9 +2,7 @@
 use mathlib.Core.Path.{_≡_, refl, sym, _∙_, ap}
 use mathlib.Core.Bool.{Bool, true, false}
 use mathlib.Core.List.{List}
-use Prim.Native.Nat.{ℕ, zero, suc, _+_, _<_, _≤_}
-use native.Mathlib.Numerals.{add-one}
-use native.Mathlib.Decide.{decLe}
+use Prim.Native.Nat.{ℕ, _+_, _-_, _<_, _≤_}
 use native.Mathlib.Omega.{arith}
 use lib.Dec.{T, lit<}
 use lib.IntN.{ℤ, pos, natAbs}
@@ -28,7 +26,9 @@ use Rattle.blocks.specs.declared.curves.Pairs.{Pairs}
 use Rattle.blocks.specs.declared.curves.CurveRead.{CurveRead}
 use Rattle.lines.specs.Line.{andThen, afterFields, valueIn, lineFeed}
 use Rattle.lines.proofs.Along.{never-at, went}
-use Rattle.blocks.specs.CurveLine.{countOf, afterPairs, pairValue, endIn, priceIn, noLine, PairsRead, curveLine, curveOf, CurveReadAt}
+use Rattle.lines.proofs.Series.{place-next, series-wrong}
+use Rattle.blocks.specs.CurveLine.{afterPair, afterPairs, curveLine, curveSaid}
+use Rattle.blocks.specs.Told.{countOf, PairsRead, CurveReadAt, noLine}
 
 -- ---- the count
 
@@ -54,42 +54,16 @@ module _ (n : ℤ) (f : SFits w64 n) where
         rw (le-not-lt (pos 0) n, from-zero false e, le-not-lt n (pos 12), to-twelve false g, toZ-ofZ f)
         (natural n (f .sfits) (from-zero false e) .2)
 
--- ---- the pairs
-
-module _ (s : List ℕ) (at : ℕ) where
-  pub pairs-none : afterPairs 0 s at ≡ At at
-  unfolding afterPairs
-  pairs-none = refl
-
-  pairs-wrong : (j n : ℕ) → j ≤ n → afterPairs j s at ≡ Wrong → afterPairs n s at ≡ Wrong
-  unfolding afterPairs
-  pairs-wrong j zero h e = let same : 0 ≡ j = omega arith in ap (λ (k : ℕ). afterPairs k s at) same ∙ e
-  pairs-wrong j (suc n) h e = go (λ u. pairs-wrong j n u e) (decLe j n)
-    where
-      go : (j ≤ n → afterPairs n s at ≡ Wrong) → Dec (j ≤ n) → andThen (afterPairs n s at) (afterFields 14 2 s) ≡ Wrong
-      go ih (yes u) = rw (ih u)
-      go ih (no u) = let same : suc n ≡ j = omega arith in ap (λ (k : ℕ). afterPairs k s at) same ∙ e
-
-  module _ (j i : ℕ) (e : afterPairs j s at ≡ At i) where
-    pub pairs-more : afterPairs (j + 1) s at ≡ afterFields 14 2 s i
-    unfolding afterPairs
-    pairs-more = rw (add-one j, e)
-
-    pub end-at : endIn s at j ≡ valueIn 14 s i 0
-    unfolding endIn
-    end-at = ap (pairValue 0 s) e
-
-    pub price-at : priceIn s at j ≡ valueIn 14 s i 1
-    unfolding priceIn
-    price-at = ap (pairValue 1 s) e
-
-    pub pairs-break : (n : ℕ) (r : Pairs) → j < n → afterFields 14 2 s i ≡ Wrong → r .next ≡ Wrong → PairsRead n s at r
-    pairs-break n r h f w =
-        record {
-          next = w ∙ sym (pairs-wrong (j + 1) n (omega arith) (pairs-more ∙ f));
-          ends = λ k a. absurd (never-at (sym w ∙ a));
-          prices = λ k a. absurd (never-at (sym w ∙ a));
-        }
+-- ---- a pair that is not as printed: so are all behind it
+pub pairs-break : (s : List ℕ) (at j i n : ℕ) (r : Pairs) → afterPairs j s at ≡ At i → j < n → afterPair s i ≡ Wrong → r .next ≡ Wrong
+    → PairsRead n s at r
+pairs-break s at j i n r e h f w =
+    let all : j + 1 + (n - (j + 1)) ≡ n = omega arith in
+    record {
+      next = w ∙ sym (ap (λ (k : ℕ). afterPairs k s at) (sym all) ∙ series-wrong afterPair s at (j + 1) _ (place-next afterPair s at j i e ∙ f));
+      ends = λ k a. absurd (never-at (sym w ∙ a));
+      prices = λ k a. absurd (never-at (sym w ∙ a));
+    }
 
 -- ---- the line
 
@@ -130,7 +104,7 @@ module _ (first : ℕ) (s : List ℕ) (at : ℕ) where
 
       pub curve-read : (start : ℤ) → start ≡ valueIn first s at 0 → (p : Pairs) → PairsRead n s i p → (end : Next) → end ≡ andThen (p .next) (lineFeed s)
           → CurveReadAt first s at (record { next = end; curve = record { start = kw start; n = n; to = p .to; at = p .at } })
-      unfolding curveOf
+      unfolding curveSaid
       curve-read start t p r end f =
           record {
             next = f ∙ rw (r .next) (sym line);

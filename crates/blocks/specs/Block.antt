@@ -11,47 +11,61 @@ use Rattle.tariff.specs.Units.{kw, price}
 use Rattle.tariff.specs.Hour.{blank}
 use Rattle.text.specs.declared.Next.{Next}
 use Rattle.text.specs.declared.Next.the-variants.{At, Wrong}
+use Rattle.keys.specs.Keys.{AHEAD, DA, RT, INTERVAL}
 use Rattle.lines.specs.Line.{valueIn, lineAt, filled}
-use Rattle.lines.specs.Rows.{rowIn, Rows, counted, brokenRow, rowsAt, RowsFound}
+use Rattle.lines.specs.Series.{seriesIn, Series, lineCount, brokenLine, seriesAt}
 use Rattle.records.specs.Records.{aheadOf, intervalOf}
-use Rattle.blocks.specs.declared.rows.RowsRead.{RowsRead}
 use Rattle.blocks.specs.declared.BlockRead.{BlockRead}
-use Rattle.blocks.specs.CurveLine.{curveLine, curveOf}
+use Rattle.blocks.specs.CurveLine.{curveLine, curveSaid}
 
--- interval i, where the first interval line stands at `at`
+-- ---- its lines
+
+abbrev pub aheadLine : List ℕ → ℕ → Next
+aheadLine = lineAt AHEAD 10
+
+-- an interval line, and what it says
+abbrev pub intervalLine : List ℕ → ℕ → Next
+intervalLine = lineAt INTERVAL 20
+
+abbrev pub intervalSaid : List ℕ → ℕ → Interval
+intervalSaid s at = intervalOf (valueIn INTERVAL s at)
+
+-- where the first interval line stands at `at`: interval i; and how many there are, up to 30, from line 4 on
 abbrev pub intervalAt : List ℕ → (at i : ℕ) → Interval
-intervalAt = rowIn 16 20 intervalOf blank
+intervalAt = seriesIn intervalLine intervalSaid blank
+
+abbrev pub intervalLines : List ℕ → (at : ℕ) → Series
+intervalLines s at = seriesAt intervalLine 4 30 s at 0
 
 -- ---- the block
-
--- what the code has read of the interval lines: up to 30 from line 4 on, so that one too many is line 34
-abbrev pub RowsReadAt : List ℕ → (at : ℕ) → RowsRead → Type 0
-RowsReadAt s at r = RowsFound 16 20 4 30 intervalOf blank s at (r .broken) (r .n) (r .iv)
 
 pub data Block : Type 0 where
   broken : ℕ → Block
   read : Hour → Block
 
-abbrev pub withRows : (ℕ → ℤ) → Curve → Curve → List ℕ → ℕ → Rows → Block
-withRows v da rt s at (brokenRow line) = broken line
-withRows v da rt s at (counted n) =
-    read (record { hour = v 0; ahead = aheadOf v; da = da; rt = rt; n = n; iv = filled n 30 (intervalAt s at) blank })
+-- the record of line 1's values, two curves and n intervals, the first of which stands at `at`
+abbrev pub hourWith : (ℕ → ℤ) → Curve → Curve → List ℕ → (at n : ℕ) → Hour
+hourWith v da rt s at n = record { hour = v 0; ahead = aheadOf v; da = da; rt = rt; n = n; iv = filled n 30 (intervalAt s at) blank }
+
+abbrev pub withSeries : (ℕ → ℤ) → Curve → Curve → List ℕ → ℕ → Series → Block
+withSeries v da rt s at (brokenLine line) = broken line
+withSeries v da rt s at (lineCount n) = read (hourWith v da rt s at n)
 
 abbrev pub afterLine3 : Next → (ℕ → ℤ) → Curve → Curve → List ℕ → Block
 afterLine3 Wrong v da rt s = broken 3
-afterLine3 (At at) v da rt s = withRows v da rt s at (rowsAt 16 20 4 30 s at 0)
+afterLine3 (At at) v da rt s = withSeries v da rt s at (intervalLines s at)
 
 abbrev pub afterLine2 : Next → (ℕ → ℤ) → Curve → List ℕ → Block
 afterLine2 Wrong v da s = broken 2
-afterLine2 (At at) v da s = afterLine3 (curveLine 12 s at) v da (curveOf 12 s at) s
+afterLine2 (At at) v da s = afterLine3 (curveLine RT s at) v da (curveSaid RT s at) s
 
 abbrev pub afterLine1 : Next → List ℕ → ℕ → Block
 afterLine1 Wrong s from = broken 1
-afterLine1 (At at) s from = afterLine2 (curveLine 10 s at) (valueIn 0 s from) (curveOf 10 s at) s
+afterLine1 (At at) s from = afterLine2 (curveLine DA s at) (valueIn AHEAD s from) (curveSaid DA s at) s
 
 -- the block that begins at a place: read up to its first empty line or the end of the text
 unfoldable pub blockAt : List ℕ → ℕ → Block
-blockAt s from = afterLine1 (lineAt 0 10 s from) s from
+blockAt s from = afterLine1 (aheadLine s from) s from
 
 -- a block that is lent
 unfoldable pub blockOf : List ℕ → Block
@@ -79,6 +93,6 @@ noAhead =
 abbrev pub noHour : Hour
 noHour = record { hour = pos 0; ahead = noAhead; da = noCurve; rt = noCurve; n = 0; iv = replicate 30 blank }
 
-abbrev pub readOf : Block → BlockRead
-readOf (broken line) = record { broken = line; hour = noHour }
-readOf (read h) = record { broken = 0; hour = h }
+abbrev pub hourReadOf : Block → BlockRead
+hourReadOf (broken line) = record { broken = line; hour = noHour }
+hourReadOf (read h) = record { broken = 0; hour = h }

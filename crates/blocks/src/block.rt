@@ -1,9 +1,9 @@
-// An hour block, read into a record: line 1, the two curve lines, and the interval lines, which `rows` reads.
+// An hour block, read into a record: line 1, the two curve lines, and the interval lines, which `series` reads.
 ghost use mathlib.Core.Path.{_≡_};
-ghost use Rattle.blocks.specs.Block.{broken, blockAt, readOf};
+ghost use Rattle.blocks.specs.Block.{broken, blockAt, hourReadOf};
 use crate::BlockRead;
 use crate::curves;
-use crate::rows;
+use crate::series;
 use tariff::Curve;
 use tariff::DayAhead;
 use tariff::Hour;
@@ -13,7 +13,7 @@ use text::Next;
 
 // A block whose line is not as printed: no record goes with it.
 pub fn broken_block(line: usize) -> BlockRead
-    ensures { λ r. ⌜ r ≡ readOf (broken line) ⌝ }
+    ensures { λ r. ⌜ r ≡ hourReadOf (broken line) ⌝ }
 {
     let none = DayAhead {
         en: Kw(0),
@@ -47,34 +47,34 @@ pub fn broken_block(line: usize) -> BlockRead
 
 // The block that begins at a place, read up to its first empty line or the text's end.
 pub fn read_block(s: &[u8], at: usize) -> BlockRead
-    ensures { λ r. ⌜ r ≡ readOf (blockAt (now (s .entry)) at) ⌝ }
+    ensures { λ r. ⌜ r ≡ hourReadOf (blockAt (now (s .entry)) at) ⌝ }
 {
-    let first = lines::fields_at(s, at, 0, 10);
+    let first = lines::fields_at(s, at, keys::AHEAD, 10);
     let v = first.values;
     let fields = first.next;
     let Next::At(p1) = lines::line_end(s, fields) else {
         return broken_block(1);
     };
-    let da = curves::curve_at(s, p1, 10);
+    let da = curves::curve_at(s, p1, keys::DA);
     let da_next = da.next;
     let Next::At(p2) = da_next else {
         return broken_block(2);
     };
-    let rt = curves::curve_at(s, p2, 12);
+    let rt = curves::curve_at(s, p2, keys::RT);
     let rt_next = rt.next;
     let Next::At(p3) = rt_next else {
         return broken_block(3);
     };
-    let rows = rows::rows_at(s, p3);
-    let broken = rows.broken;
+    let series = series::series_at(s, p3);
+    let broken = series.broken;
     if broken != 0 {
         return broken_block(broken);
     }
     let ahead = records::ahead_of(v);
     let da_curve = da.curve;
     let rt_curve = rt.curve;
-    let n = rows.n;
-    let iv = rows.iv;
+    let n = series.n;
+    let iv = series.iv;
     BlockRead {
         broken: 0,
         hour: Hour {

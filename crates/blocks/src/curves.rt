@@ -1,7 +1,8 @@
 // A curve line, read into its curve: the start, the count, and that many pairs.
 ghost use mathlib.Core.Path.{_≡_};
 ghost use Prim.Native.Nat.{_+_, _≤_};
-ghost use Rattle.blocks.specs.CurveLine.{countOf, noLine, PairsRead, CurveReadAt};
+ghost use Rattle.keys.specs.Keys.{KEYS};
+ghost use Rattle.blocks.specs.Told.{countOf, noLine, PairsRead, CurveReadAt};
 use tariff::Curve;
 use tariff::Kw;
 use tariff::Price;
@@ -28,7 +29,7 @@ pub fn pairs_at(s: &[u8], at: usize, n: usize) -> Pairs
     let mut i = at;
     let mut j: usize = 0;
     while j < n {
-        let pair = lines::fields_at(s, i, 14, 2);
+        let pair = lines::fields_at(s, i, keys::PAIR, 2);
         let next = pair.next;
         let Next::At(after) = next else {
             return Pairs {
@@ -62,7 +63,7 @@ pub fn count_of(n: i64) -> usize
 
 // The curve line at a place, from key `first` on.
 pub fn curve_at(s: &[u8], at: usize, first: usize) -> CurveRead
-    requires { ⌜ first + 2 ≤ 58 ⌝ }
+    requires { ⌜ first + 2 ≤ KEYS ⌝ }
     ensures { λ r. ⌜ CurveReadAt first (now (s .entry)) at r ⌝ }
 {
     let head = lines::fields_at(s, at, first, 2);

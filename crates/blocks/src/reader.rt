@@ -1,7 +1,7 @@
 // The reader: a block that is lent, and a place in it. It goes over the lent block without a copy of it. What holds a reference is
 // thin and few: it takes the reader apart and calls a covered function on the slice and the place.
 ghost use mathlib.Core.Path.{_≡_};
-ghost use Rattle.blocks.specs.Block.{blockAt, readOf};
+ghost use Rattle.blocks.specs.Block.{blockAt, hourReadOf};
 use crate::BlockRead;
 use crate::block;
 
@@ -19,14 +19,14 @@ pub fn open<'a>(block: &'a [u8], place: usize) -> Reader<'a>
 
 // The hour block that begins at the reader's place.
 pub fn hour<'a>(r: Reader<'a>) -> BlockRead
-    ensures { λ h. ⌜ h ≡ readOf (blockAt (now (r .entry .block)) (r .entry .place)) ⌝ }
+    ensures { λ h. ⌜ h ≡ hourReadOf (blockAt (now (r .entry .block)) (r .entry .place)) ⌝ }
 {
     block::read_block(r.block, r.place)
 }
 
 // The same for a caller that has a slice and a place, and holds no reader.
 pub fn hour_at(block: &[u8], place: usize) -> BlockRead
-    ensures { λ h. ⌜ h ≡ readOf (blockAt (now (block .entry)) place) ⌝ }
+    ensures { λ h. ⌜ h ≡ hourReadOf (blockAt (now (block .entry)) place) ⌝ }
 {
     hour(open(block, place))
 }

@@ -21,19 +21,19 @@ abbrev pub replyOf : List ℕ → Bool → ℤ → List ℤ → Reply
 replyOf block isExcluded expected row = replyTo (blockOf block) isExcluded (expectedOf expected) (length row)
 
 -- 0 where the block is paid, else the number of the check that refuses
-abbrev pub numberIn : Reply → ℕ
-numberIn (paid sum cents) = 0
-numberIn (refused number place) = number
+abbrev pub numberHeld : Reply → ℕ
+numberHeld (paid sum cents) = 0
+numberHeld (refused number place) = number
 
 -- what each of the caller's numbers holds afterwards, where it held `before`
-abbrev pub placeIn : Reply → ℕ → ℕ
-placeIn (paid sum cents) before = before
-placeIn (refused number place) before = place
+abbrev pub placeHeld : Reply → ℕ → ℕ
+placeHeld (paid sum cents) before = before
+placeHeld (refused number place) before = place
 
-abbrev pub grainsIn : Reply → ℤ → ℤ
-grainsIn (paid sum cents) before = sum
-grainsIn (refused number place) before = before
+abbrev pub grainsHeld : Reply → ℤ → ℤ
+grainsHeld (paid sum cents) before = sum
+grainsHeld (refused number place) before = before
 
-abbrev pub centsIn : Reply → ℤ → ℤ
-centsIn (paid sum cents) before = cents
-centsIn (refused number place) before = before
+abbrev pub centsHeld : Reply → ℤ → ℤ
+centsHeld (paid sum cents) before = cents
+centsHeld (refused number place) before = before

@@ -2,7 +2,7 @@
 ghost use mathlib.Core.Path.{_≡_};
 ghost use Rattle.blocks.specs.Block.{blockOf};
 ghost use Rattle.sheet.specs.Settle.{rowTo};
-ghost use Rattle.culvertjig.specs.Numbers.{expectedOf, replyOf, numberIn, placeIn, grainsIn, centsIn};
+ghost use Rattle.culvertjig.specs.Numbers.{expectedOf, replyOf, numberHeld, placeHeld, grainsHeld, centsHeld};
 use tariff::Answer;
 use tariff::Expected;
 
@@ -29,10 +29,10 @@ pub extern "C" fn culvertjig_block(
     grains: &mut i64,
     cents: &mut i64,
 ) -> u64
-    ensures number { λ r. ⌜ r ≡ numberIn (replyOf (now (block .entry)) excluded expected (now (row .entry))) ⌝ }
-    ensures place { λ _. ⌜ now (place .exit) ≡ placeIn (replyOf (now (block .entry)) excluded expected (now (row .entry))) (now (place .entry)) ⌝ }
-    ensures grains { λ _. ⌜ now (grains .exit) ≡ grainsIn (replyOf (now (block .entry)) excluded expected (now (row .entry))) (now (grains .entry)) ⌝ }
-    ensures cents { λ _. ⌜ now (cents .exit) ≡ centsIn (replyOf (now (block .entry)) excluded expected (now (row .entry))) (now (cents .entry)) ⌝ }
+    ensures number { λ r. ⌜ r ≡ numberHeld (replyOf (now (block .entry)) excluded expected (now (row .entry))) ⌝ }
+    ensures place { λ _. ⌜ now (place .exit) ≡ placeHeld (replyOf (now (block .entry)) excluded expected (now (row .entry))) (now (place .entry)) ⌝ }
+    ensures grains { λ _. ⌜ now (grains .exit) ≡ grainsHeld (replyOf (now (block .entry)) excluded expected (now (row .entry))) (now (grains .entry)) ⌝ }
+    ensures cents { λ _. ⌜ now (cents .exit) ≡ centsHeld (replyOf (now (block .entry)) excluded expected (now (row .entry))) (now (cents .entry)) ⌝ }
     ensures row { λ _. ⌜ now (row .exit) ≡ rowTo (blockOf (now (block .entry))) excluded (expectedOf expected) (now (row .entry)) ⌝ }
 {
     let answer = sheet::settle_block(block, excluded, hour_expected(expected), row);

@@ -13,15 +13,14 @@ fn say_usage() {
     say(b"Read on: docs/sheet.md for the sheet, docs/answers.md for what is printed.\n");
 }
 
-// Of 25 pieces at most 16,384 bytes and three more each are kept, and a byte of what follows.
 fn main() {
     if 1 < os::arg_count() {
         say_usage();
         return;
     }
-    let mut text = [0u8; 409680];
-    let n = intake::take_in(&mut text, 25);
-    let mut row = [0u8; 2048];
-    let m = printed::day_text(&text[..n], &mut row);
-    io::write_all(STDOUT_FILENO, &row[..m]);
+    let mut text = [0u8; intake::DAY];
+    let n = intake::take_in(&mut text, intake::PIECES);
+    let mut page = [0u8; printed::LONGEST];
+    let m = printed::day_text(&text[..n], &mut page);
+    io::write_all(STDOUT_FILENO, &page[..m]);
 }

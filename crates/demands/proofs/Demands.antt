@@ -1,7 +1,7 @@
 -- The demands, on one page: of the programs `hour`, `day` and `import`, of the block call for other programs, and of what they settle.
 -- A text is a list of bytes, any bytes. Each demand is proved by citing what proves it; the words are document 01's, in specs/ of each crate.
 -- Witness.antt has small texts that meet the conditions, so that no theorem here is empty.
-use mathlib.Core.Path.{_≡_}
+use mathlib.Core.Path.{_≡_, sym, _∙_}
 use mathlib.Core.Bool.{Bool, false}
 use mathlib.Core.List.{List, [], _++_}
 use mathlib.Core.Logic.{_↔_}
@@ -18,13 +18,14 @@ use Rattle.tariff.specs.Units.{centsOf}
 use Rattle.tariff.specs.Reply.{paid, refused, DERATE, REACH, clear}
 use Rattle.tariff.specs.Hour.{contribution}
 use Rattle.tariff.specs.Eligible.{excluded}
-use Rattle.tariff.specs.Demand.{MustPrice, priceIn, FirstUnpriced, FirstExceeded, UnpricedBeforeDerate, ExceededBeforeReach, NoFaultTo4, NoFaultTo5, Passes, Extends}
+use Rattle.tariff.specs.Demand.{MustPrice, priceIn, FirstUnpriced, FirstExceeded, UnpricedBeforeDerate, ExceededBeforeReach, Lawful, WholeHour, Passes, Extends}
 use Rattle.tariff.specs.Import as import
+use Rattle.tariff.proofs.Demands.{paid-row}
 use Rattle.text.specs.Text.{bytes}
-use Rattle.lines.specs.Pieces.{restAfter, piece}
+use Rattle.lines.specs.Pieces.{PIECE, restAfter, piece}
 use Rattle.intake.specs.declared.Intake.{Intake}
-use Rattle.intake.specs.Intake.{keptOf, afterAll, rowAll, atFirst}
-use Rattle.intake.proofs.Kept.{parts, room-row}
+use Rattle.intake.specs.Intake.{keptOf, afterAll, storeAll, atFirst}
+use Rattle.intake.proofs.Kept.{parts, room-store}
 use Rattle.blocks.specs.Block.{blockOf, read}
 use Rattle.sheet.specs.Settle.{replyTo, rowTo}
 use Rattle.sheet.specs.Apart.{CurvesApart}
@@ -39,20 +40,24 @@ use Rattle.sheet.proofs.BlockDemands.{
   block-refused-for-reach-exactly-when-some-kilowatt-is-unpriced,
   block-refused-for-derate-exactly-when-some-reduction-exceeds,
   adding-curve-to-a-block-changes-nothing,
+  behind-the-close,
 }
-use Rattle.header.specs.Header.{headerFault, marksOf}
-use Rattle.ledger.specs.Day.{bodyOf, dayReply, dayTotal}
-use Rattle.tariff.specs.Total.{total}
-use Rattle.ledger.specs.Demand.{centsIn, Pays, PricedAlike, DaysApart}
+use Rattle.header.specs.Header.{marksOf}
+use Rattle.ledger.specs.Day.{frontOf, dayReply, dayTotal}
+use Rattle.tariff.specs.Total.{total, Pays, paidCents}
+use Rattle.ledger.specs.Demand.{PricedAlike, DaysApart, BothRead}
+use Rattle.ledger.proofs.SheetFront.{as-marked}
 use Rattle.ledger.proofs.DayDemands.{
   an-hour-is-refused-for-reach-exactly-when-some-kilowatt-is-unpriced,
   an-hour-is-refused-for-derate-exactly-when-some-reduction-exceeds,
   the-total-is-the-sum-of-what-is-printed,
+  only-needed-prices-of-a-day-matter,
+  adding-curve-to-a-day-changes-nothing,
 }
 use Rattle.imports.specs.Import.{importReply}
 use Rattle.imports.specs.Demand.{PaidBy}
 use Rattle.imports.proofs.ImportDemands.{paid-exactly-when-unrefused}
-use Rattle.printed.specs.Printed.{hourText, dayText, importText}
+use Rattle.printed.specs.Printed.{LONGEST, hourText, dayText, importText}
 use Rattle.printed.proofs.Fits.{hour-fits, day-fits, import-fits}
 use Rattle.sheet.proofs.settle_block.Statement as block
 use Rattle.sheet.proofs.settle_block.Met as block-is
@@ -65,8 +70,8 @@ use Rattle.printed.proofs.day_text.Met as day-is
 use Rattle.printed.proofs.import_text.Statement as import-day
 use Rattle.printed.proofs.import_text.Met as import-is
 use Rattle.demands.specs.Listing.{listing}
-use Rattle.demands.proofs.Blocks.{paid-block, row-of-a-paid, row-of-a-refused}
-use Rattle.demands.proofs.Printed.{kept-hour, kept-day, kept-import, closed-hour, priced-hour, longer-hour, priced-day, longer-day}
+use Rattle.demands.proofs.Blocks.{paid-as, as-paid, row-of-a-refused}
+use Rattle.demands.proofs.Printed.{lent, kept-hour, kept-day, kept-import, same-hour, same-answer, same-day}
 use Rattle.demands.proofs.Listing.{listing-printed, short-printed}
 
 -- ==== 1. Every sheet, good or bad, gets an answer and the program stops
@@ -90,29 +95,29 @@ pub import-answers : {M : Type 1} → import-day.statement M
 import-answers = import-is.met
 
 -- No answer is longer than the row of 2,048 bytes that a program lends for it, so none is cut.
-pub no-answer-is-cut : (s : List ℕ) → (length (hourText s) ≤ 2048) × (length (dayText 24 s) ≤ 2048) × (length (importText 24 s) ≤ 2048)
+pub no-answer-is-cut : (s : List ℕ) → (length (hourText s) ≤ LONGEST) × (length (dayText 24 s) ≤ LONGEST) × (length (importText 24 s) ≤ LONGEST)
 no-answer-is-cut s = (hour-fits s, day-fits 24 s (omega arith), import-fits 24 s)
 
 -- Of texts, not of reading: however long a text is, the bounded part of it that a program keeps gives the same bytes.
 pub what-is-kept-decides :
     (s : List ℕ)
-    → (hourText (take 16384 s) ≡ hourText s) × (dayText 24 (keptOf (atFirst 25) s) ≡ dayText 24 s) × (importText 24 (keptOf (atFirst 25) s) ≡ importText 24 s)
+    → (hourText (take PIECE s) ≡ hourText s) × (dayText 24 (keptOf (atFirst 25) s) ≡ dayText 24 s) × (importText 24 (keptOf (atFirst 25) s) ≡ importText 24 s)
 what-is-kept-decides s = (kept-hour s, kept-day 24 s (omega arith), kept-import 24 s)
 
 -- What follows in a text behind the empty line that closes its first block never changes a byte of `hour`'s answer to it.
 pub hour-stops-at-the-empty-line : (s behind : List ℕ) → Closed s → hourText (s ++ behind) ≡ hourText s
-hour-stops-at-the-empty-line = closed-hour
+hour-stops-at-the-empty-line s behind c = same-hour (s ++ behind) s (behind-the-close s behind c)
 
 -- A text that is taken in byte by byte leaves what is kept of it in a row of 409,680 bytes, in whatever parts the text comes.
 pub the-row-holds-what-is-kept :
     (row s : List ℕ)
     → 409679 ≤ length row
-    → take (afterAll row (atFirst 25) s .n) (rowAll row (atFirst 25) s) ≡ keptOf (atFirst 25) s
-the-row-holds-what-is-kept row s room = room-row row s 25 room
+    → take (afterAll row (atFirst 25) s .n) (storeAll row (atFirst 25) s) ≡ keptOf (atFirst 25) s
+the-row-holds-what-is-kept row s room = room-store row s 25 room
 
 pub no-matter-in-which-parts :
     (row a b : List ℕ) (i : Intake)
-    → (afterAll row i (a ++ b) ≡ afterAll (rowAll row i a) (afterAll row i a) b) × (rowAll row i (a ++ b) ≡ rowAll (rowAll row i a) (afterAll row i a) b)
+    → (afterAll row i (a ++ b) ≡ afterAll (storeAll row i a) (afterAll row i a) b) × (storeAll row i (a ++ b) ≡ storeAll (storeAll row i a) (afterAll row i a) b)
 no-matter-in-which-parts row a b i = parts a b row i
 
 -- A refusal leaves the lent row untouched.
@@ -146,7 +151,8 @@ pub an-hour-pays-its-contributions :
     → (replyTo (blockOf s) isExcluded expected room ≡ paid sum cents)
     ↔ ((h : Hour) × (blockOf s ≡ read h) × Passes h isExcluded expected room
     × (sum ≡ sumTo (contribution h isExcluded) (h .n)) × (cents ≡ centsOf (sumTo (contribution h isExcluded) (h .n))))
-an-hour-pays-its-contributions s = paid-block (blockOf s)
+an-hour-pays-its-contributions s isExcluded expected room sum cents =
+    (paid-as isExcluded expected room sum cents (blockOf s), as-paid isExcluded expected room sum cents (blockOf s))
 
 -- Then the first entries of the lent row, one per interval, are their contributions, and later ones are as before.
 pub a-paid-row-holds-each-contribution :
@@ -156,14 +162,15 @@ pub a-paid-row-holds-each-contribution :
     → ((i : ℕ) → i < h .n → getD (rowTo (blockOf s) isExcluded expected row) i (pos 0) ≡ contribution h isExcluded i)
     × ((i : ℕ) → h .n ≤ i → getD (rowTo (blockOf s) isExcluded expected row) i (pos 0) ≡ getD row i (pos 0))
     × (length (rowTo (blockOf s) isExcluded expected row) ≡ length row)
-a-paid-row-holds-each-contribution s = row-of-a-paid (blockOf s)
+a-paid-row-holds-each-contribution s h isExcluded expected row sum cents x e = rw x (paid-row h isExcluded expected row sum cents (rw x at e))
 
 -- A day: the cents of its hours, where every hour is paid and nothing follows the last block.
 pub a-day-pays-its-hours :
     (hours : ℕ) (s : List ℕ) (c : ℤ)
-    → (dayTotal hours s ≡ total c)
-    ↔ (((k : ℕ) → k < hours → Pays (dayReply hours s k)) × (c ≡ sumTo (λ k. centsIn (dayReply hours s k)) hours) × (restAfter hours (bodyOf hours s) ≡ []))
-a-day-pays-its-hours = the-total-is-the-sum-of-what-is-printed
+    → (dayTotal (frontOf hours s) ≡ total c)
+    ↔ (((k : ℕ) → k < hours → Pays (dayReply (frontOf hours s) k))
+    × (c ≡ sumTo (λ k. paidCents (dayReply (frontOf hours s) k)) hours) × (restAfter hours (frontOf hours s .body) ≡ []))
+a-day-pays-its-hours hours s = the-total-is-the-sum-of-what-is-printed (frontOf hours s)
 
 -- A curtailed import: the sum of its hours' parts, which becomes cents once, where nothing refuses it.
 pub an-import-pays-its-hours : (hours : ℕ) (s : List ℕ) (name g c : ℤ) → (importReply hours s ≡ import.paid name g c) ↔ PaidBy hours s name g c
@@ -178,8 +185,8 @@ pub only-those-prices-matter :
     → CurvesApart s t
     → blockOf s ≡ read h
     → blockOf t ≡ read g
-    → NoFaultTo4 h expected
-    → NoFaultTo4 g expected
+    → Lawful h expected
+    → Lawful g expected
     → ((i : ℕ) (k : ℤ) → MustPrice h isExcluded i k → priceIn h i k ≡ priceIn g i k)
     → (replyTo (blockOf s) isExcluded expected (length row) ≡ replyTo (blockOf t) isExcluded expected (length row)) × (rowTo (blockOf s) isExcluded expected row ≡ rowTo (blockOf t) isExcluded expected row)
 only-those-prices-matter = only-needed-prices-of-blocks-matter
@@ -190,45 +197,49 @@ pub such-blocks-are-printed-alike :
     → CurvesApart s t
     → blockOf s ≡ read h
     → blockOf t ≡ read g
-    → NoFaultTo4 h Any
-    → NoFaultTo4 g Any
+    → Lawful h Any
+    → Lawful g Any
     → ((i : ℕ) (k : ℤ) → MustPrice h false i k → priceIn h i k ≡ priceIn g i k)
     → hourText s ≡ hourText t
-such-blocks-are-printed-alike = priced-hour
+such-blocks-are-printed-alike s t h g o x y f f′ e =
+    let same = only-those-prices-matter s t h g false Any lent o x y f f′ e in same-answer s t h g o x y (same .0) (same .1)
 
 -- And two days of such blocks are printed alike, byte for byte.
 pub such-days-are-printed-alike :
     (hours : ℕ) (s t : List ℕ)
-    → DaysApart hours s t
-    → ((k : ℕ) → k < hours → (h g : Hour)
-    → blockOf (piece k (bodyOf hours s)) ≡ read h
-    → blockOf (piece k (bodyOf hours t)) ≡ read g
-    → PricedAlike h g (excluded hours (marksOf hours s) k) (Says (pos k)))
+    → DaysApart (frontOf hours s) (frontOf hours t)
+    → BothRead (frontOf hours s) (frontOf hours t) (λ k h j. PricedAlike h j (frontOf hours s .isExcluded k) (Says (pos k)))
     → dayText hours s ≡ dayText hours t
-such-days-are-printed-alike = priced-day
+such-days-are-printed-alike hours s t apart priced = same-day hours s t (only-needed-prices-of-a-day-matter (frontOf hours s) (frontOf hours t) apart priced)
 
 -- An hour is refused for reach exactly when no check from 1 to 5 refuses it, such a kilowatt has no price in some interval, and no derate
 -- refusal falls in that interval or before it.
 pub refused-for-reach-exactly-when-some-interval-lacks-such-a-price :
     (s : List ℕ) (h : Hour) (isExcluded : Bool) (expected : Expected) (room : ℕ)
     → blockOf s ≡ read h
-    → ((place : ℕ) × (replyTo (blockOf s) isExcluded expected room ≡ refused REACH place)) ↔ (NoFaultTo5 h expected × UnpricedBeforeDerate h isExcluded)
+    → ((place : ℕ) × (replyTo (blockOf s) isExcluded expected room ≡ refused REACH place)) ↔ (WholeHour h expected × UnpricedBeforeDerate h isExcluded)
 refused-for-reach-exactly-when-some-interval-lacks-such-a-price = block-refused-for-reach-exactly-when-some-kilowatt-is-unpriced
 
--- So is hour k of a day, which is excluded as the day's marks say.
+-- So is hour k of a day. It is excluded as the marks of the day's header say.
+pub an-hour-is-excluded-as-the-marks-say :
+    (hours : ℕ) (s : List ℕ) → frontOf hours s .fault ≡ clear → frontOf hours s .isExcluded ≡ excluded hours (marksOf hours s)
+an-hour-is-excluded-as-the-marks-say = as-marked
+
 pub refused-for-reach-in-a-day-exactly-when-some-interval-lacks-such-a-price :
     (hours : ℕ) (s : List ℕ)
-    → headerFault hours s ≡ clear
+    → frontOf hours s .fault ≡ clear
     → (k : ℕ) (h : Hour)
-    → blockOf (piece k (bodyOf hours s)) ≡ read h
-    → ((place : ℕ) × (dayReply hours s k ≡ refused REACH place)) ↔ (NoFaultTo5 h (Says (pos k)) × UnpricedBeforeDerate h (excluded hours (marksOf hours s) k))
-refused-for-reach-in-a-day-exactly-when-some-interval-lacks-such-a-price = an-hour-is-refused-for-reach-exactly-when-some-kilowatt-is-unpriced
+    → blockOf (piece k (frontOf hours s .body)) ≡ read h
+    → ((place : ℕ) × (dayReply (frontOf hours s) k ≡ refused REACH place))
+    ↔ (WholeHour h (Says (pos k)) × UnpricedBeforeDerate h (frontOf hours s .isExcluded k))
+refused-for-reach-in-a-day-exactly-when-some-interval-lacks-such-a-price hours s =
+    an-hour-is-refused-for-reach-exactly-when-some-kilowatt-is-unpriced (frontOf hours s)
 
 -- Its place is the first interval with such a kilowatt, from 1.
 pub reach-exactly-when-such-a-kilowatt-has-no-price :
     (s : List ℕ) (h : Hour) (isExcluded : Bool) (expected : Expected) (room i : ℕ)
     → blockOf s ≡ read h
-    → (replyTo (blockOf s) isExcluded expected room ≡ refused REACH (i + 1)) ↔ (NoFaultTo5 h expected × FirstUnpriced h isExcluded i)
+    → (replyTo (blockOf s) isExcluded expected room ≡ refused REACH (i + 1)) ↔ (WholeHour h expected × FirstUnpriced h isExcluded i)
 reach-exactly-when-such-a-kilowatt-has-no-price = block-reach-exactly-when-unpriced
 
 -- An hour is refused for derate exactly when no check from 1 to 5 refuses it, the reduction of some eligible interval exceeds the room for
@@ -236,23 +247,25 @@ reach-exactly-when-such-a-kilowatt-has-no-price = block-reach-exactly-when-unpri
 pub refused-for-derate-exactly-when-some-reduction-exceeds-its-room :
     (s : List ℕ) (h : Hour) (isExcluded : Bool) (expected : Expected) (room : ℕ)
     → blockOf s ≡ read h
-    → ((place : ℕ) × (replyTo (blockOf s) isExcluded expected room ≡ refused DERATE place)) ↔ (NoFaultTo5 h expected × ExceededBeforeReach h isExcluded)
+    → ((place : ℕ) × (replyTo (blockOf s) isExcluded expected room ≡ refused DERATE place)) ↔ (WholeHour h expected × ExceededBeforeReach h isExcluded)
 refused-for-derate-exactly-when-some-reduction-exceeds-its-room = block-refused-for-derate-exactly-when-some-reduction-exceeds
 
 -- So is hour k of a day.
 pub refused-for-derate-in-a-day-exactly-when-some-reduction-exceeds-its-room :
     (hours : ℕ) (s : List ℕ)
-    → headerFault hours s ≡ clear
+    → frontOf hours s .fault ≡ clear
     → (k : ℕ) (h : Hour)
-    → blockOf (piece k (bodyOf hours s)) ≡ read h
-    → ((place : ℕ) × (dayReply hours s k ≡ refused DERATE place)) ↔ (NoFaultTo5 h (Says (pos k)) × ExceededBeforeReach h (excluded hours (marksOf hours s) k))
-refused-for-derate-in-a-day-exactly-when-some-reduction-exceeds-its-room = an-hour-is-refused-for-derate-exactly-when-some-reduction-exceeds
+    → blockOf (piece k (frontOf hours s .body)) ≡ read h
+    → ((place : ℕ) × (dayReply (frontOf hours s) k ≡ refused DERATE place))
+    ↔ (WholeHour h (Says (pos k)) × ExceededBeforeReach h (frontOf hours s .isExcluded k))
+refused-for-derate-in-a-day-exactly-when-some-reduction-exceeds-its-room hours s =
+    an-hour-is-refused-for-derate-exactly-when-some-reduction-exceeds (frontOf hours s)
 
 -- Its place is the first such interval, from 1.
 pub derate-exactly-when-a-reduction-exceeds-its-room :
     (s : List ℕ) (h : Hour) (isExcluded : Bool) (expected : Expected) (room i : ℕ)
     → blockOf s ≡ read h
-    → (replyTo (blockOf s) isExcluded expected room ≡ refused DERATE (i + 1)) ↔ (NoFaultTo5 h expected × FirstExceeded h isExcluded i)
+    → (replyTo (blockOf s) isExcluded expected room ≡ refused DERATE (i + 1)) ↔ (WholeHour h expected × FirstExceeded h isExcluded i)
 derate-exactly-when-a-reduction-exceeds-its-room = block-derate-exactly-when-exceeded
 
 -- Adding curve to a paid hour never moves a cent, where the longer curves break no rule of checks 1 to 4.
@@ -262,7 +275,7 @@ pub adding-curve-never-moves-a-cent :
     → blockOf s ≡ read h
     → blockOf t ≡ read g
     → (sum cents : ℤ)
-    → NoFaultTo4 g expected
+    → Lawful g expected
     → Extends (h .da) (g .da)
     → Extends (h .rt) (g .rt)
     → replyTo (blockOf s) isExcluded expected (length row) ≡ paid sum cents
@@ -275,21 +288,21 @@ pub adding-curve-changes-no-byte-of-an-hour :
     → CurvesApart s t
     → blockOf s ≡ read h
     → blockOf t ≡ read g
-    → NoFaultTo4 g Any
+    → Lawful g Any
     → Extends (h .da) (g .da)
     → Extends (h .rt) (g .rt)
     → Pays (replyTo (blockOf s) false Any 30)
     → hourText s ≡ hourText t
-adding-curve-changes-no-byte-of-an-hour = longer-hour
+adding-curve-changes-no-byte-of-an-hour s t h g o x y f d r e =
+    let same = adding-curve-never-moves-a-cent s t h g false Any lent o x y (e .sum) (e .cents) f d r (e .pays) in
+    same-answer s t h g o x y (e .pays ∙ sym (same .0)) (sym (same .1))
 
 -- Nor to a day whose hours are all paid: every byte that is printed stays.
 pub adding-curve-to-a-day-never-moves-a-cent :
     (hours : ℕ) (s t : List ℕ)
-    → DaysApart hours s t
-    → ((k : ℕ) → k < hours → Pays (dayReply hours s k))
-    → ((k : ℕ) → k < hours → (h g : Hour)
-    → blockOf (piece k (bodyOf hours s)) ≡ read h
-    → blockOf (piece k (bodyOf hours t)) ≡ read g
-    → NoFaultTo4 g (Says (pos k)) × Extends (h .da) (g .da) × Extends (h .rt) (g .rt))
+    → DaysApart (frontOf hours s) (frontOf hours t)
+    → ((k : ℕ) → k < hours → Pays (dayReply (frontOf hours s) k))
+    → BothRead (frontOf hours s) (frontOf hours t) (λ k h j. Lawful j (Says (pos k)) × Extends (h .da) (j .da) × Extends (h .rt) (j .rt))
     → dayText hours s ≡ dayText hours t
-adding-curve-to-a-day-never-moves-a-cent = longer-day
+adding-curve-to-a-day-never-moves-a-cent hours s t apart pays longer =
+    same-day hours s t (adding-curve-to-a-day-changes-nothing (frontOf hours s) (frontOf hours t) apart pays longer)

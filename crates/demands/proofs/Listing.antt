@@ -4,15 +4,16 @@ use mathlib.Core.Bool.{false, true}
 use mathlib.Core.List.{List, [], _∷_}
 use Prim.Native.Nat.{ℕ, zero, suc, _≤_}
 use native.Mathlib.Omega.{arith}
-use lib.IntN.{ℤ, pos, negsuc}
+use lib.IntN.{pos, negsuc}
 use Rattle.exact.specs.Whole.{upTo}
+use Rattle.exact.proofs.Apart.{impossible}
 use Rattle.figures.specs.Sample.{twoSteps, worked}
 use Rattle.figures.specs.Worked.{worked-gives, worked-paid}
 use Rattle.tariff.specs.declared.Hour.{Hour}
 use Rattle.tariff.specs.declared.Expected.the-variants.{Any}
 use Rattle.tariff.specs.Reply.{Reply, refused, REACH}
 use Rattle.tariff.specs.Hour.{outcomeAt, contribution, reply}
-use Rattle.tariff.specs.Demand.{Unpriced, DerateRefused, FirstUnpriced, NoFaultTo5}
+use Rattle.tariff.specs.Demand.{Unpriced, DerateRefused, WholeHour}
 use Rattle.tariff.proofs.Demands.{reach-exactly-when-unpriced}
 use Rattle.tariff.proofs.Needed.{withCurves}
 use Rattle.text.specs.Text.{bytes}
@@ -32,7 +33,7 @@ printed-as s h r x e = rw (x, e)
 -- ---- as it stands: the record that is read is the worked hour's, whose intervals are each computed once
 
 worked-contributions : upTo (contribution worked false) 4 ≡ pos 27000000000 ∷ pos 72900000000 ∷ negsuc 8999999999 ∷ pos 0 ∷ []
-unfolding upTo contribution outcomeAt
+unfolding upTo outcomeAt
 worked-contributions = rw (worked-gives .0, worked-gives .1, worked-gives .2, worked-gives .3)
 
 listed : blockOf (listing (bytes "100000")) ≡ read worked
@@ -40,7 +41,7 @@ listed = listing-reads
 
 pub listing-printed :
     hourText (listing (bytes "100000")) ≡ bytes "i=1 grains=27000000000\ni=2 grains=72900000000\ni=3 grains=-9000000000\ni=4 grains=0\nhour=14 pay=25250\n"
-listing-printed = printed-as (listing (bytes "100000")) worked _ listed worked-paid ∙ rw worked-contributions answers.listing
+listing-printed = printed-as (listing (bytes "100000")) worked _ listed worked-paid ∙ rw worked-contributions answers.listing-printed
 
 -- ---- with a kilowatt less of curve: the last that interval 1 must price has no price
 
@@ -51,9 +52,9 @@ short-listed : blockOf (listing (bytes "99999")) ≡ read short
 unfolding reading
 short-listed = refl
 
-short-clear : NoFaultTo5 short Any
+short-clear : WholeHour short Any
 unfolding checking
-short-clear = record { to4 = record { form = refl; range = refl; order = refl; curves = refl }; seconds = refl }
+short-clear = record { lawful = record { form = refl; range = refl; order = refl; curves = refl }; seconds = refl }
 
 last-unpriced : Unpriced short false 0
 unfolding pricing
@@ -73,8 +74,7 @@ no-derate : (j : ℕ) → j ≤ 0 → DerateRefused short false j → ⊥
 unfolding pricing
 no-derate zero u d =
     let e : false ≡ true = d .exceeded in
-    let z : _≡_ {A = ℕ} 0 1 = cc in
-    omega arith
+    impossible cc
 no-derate (suc j) u d = absurd (omega arith)
 
 short-refused : reply short false Any 30 ≡ refused REACH 1

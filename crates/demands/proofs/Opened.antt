@@ -13,7 +13,8 @@ use Rattle.tariff.specs.Curve.{Amount, quoteFrom, quote, sumUp, integral}
 use Rattle.tariff.specs.Reply.{Reply, Verdict, firstOf}
 use Rattle.tariff.specs.Derate.{exceedsRoom, reduced}
 use Rattle.tariff.specs.Contributions.{lowerLimit, upperLimit, energy, reserve, regulation, movement, otherThanEnergy}
-use Rattle.tariff.specs.Hour.{blockFault, form, range, order, curves, secondsSum, outcome, outcomeAt, intervals, contribution, hourSum, reply}
+use Rattle.tariff.specs.Outcome.{firstStop, sumBy, replyBy}
+use Rattle.tariff.specs.Hour.{blockFault, form, range, order, curves, secondsSum, outcome, outcomeAt, reply}
 use Rattle.tariff.specs.Eligible.{someTo, excluded}
 use Rattle.marks.specs.Word.{word}
 use Rattle.text.specs.Text.{keyAt}
@@ -21,14 +22,15 @@ use Rattle.text.specs.Number.{digitAt, moreDigits, naturalAt, numberAt}
 use Rattle.lines.specs.Line.{valueAt, fieldAt, afterFields, valueIn, lineAt, closes}
 use Rattle.lines.specs.Cut.{emptyIn, behind}
 use Rattle.lines.specs.Pieces.{restAfter, firstPiece, piece}
-use Rattle.lines.specs.Rows.{rowPlace, rowIn, rowsAt}
-use Rattle.blocks.specs.CurveLine.{afterPairs, endIn, priceIn, curveLine, curveOf}
+use Rattle.lines.specs.Series.{seriesPlace, seriesIn, seriesAt}
+use Rattle.blocks.specs.CurveLine.{curveLine, curveSaid}
 use Rattle.blocks.specs.Block.{Block, blockAt, blockOf}
-use Rattle.header.specs.Header.{digitsAt, rowAt, headerLine, linePlace, numberOn, digitOn, headerForm, headerInRange, headerRange, headerFault, rowWord, marksOf}
+use Rattle.header.specs.Layout.{digitsAt, rowAt, saidAt, headerLine, linePlace, lineInRange, layoutForm, layoutRange, numberOn, digitOn}
+use Rattle.header.specs.Header.{headerFault, rowWord, marksOf}
 
 unfoldable pub reading : List ℕ → Block
 unfolding
-    blockOf blockAt rowsAt rowIn rowPlace curveOf curveLine priceIn endIn afterPairs closes lineAt valueIn afterFields fieldAt valueAt keyAt
+    blockOf blockAt seriesAt seriesIn seriesPlace curveSaid curveLine closes lineAt valueIn afterFields fieldAt valueAt keyAt
     numberAt naturalAt moreDigits digitAt upTo
 reading s = blockOf s
 
@@ -40,7 +42,7 @@ cutting s = piece 0 s
 -- the header and its marks
 unfoldable pub judging : List ℕ → Verdict
 unfolding
-    headerForm headerRange headerInRange numberOn digitOn rowWord marksOf linePlace headerLine rowAt digitsAt lineAt valueIn afterFields fieldAt
+    layoutForm layoutRange lineInRange numberOn digitOn rowWord marksOf linePlace headerLine saidAt rowAt digitsAt valueIn afterFields fieldAt
     valueAt keyAt numberAt naturalAt moreDigits digitAt allTo firstOf upTo word excluded someTo
 judging s = headerFault 1 s
 
@@ -56,6 +58,6 @@ checking h = blockFault h Any
 
 unfoldable pub settling : Hour → Reply
 unfolding
-    checking pricing outcome energy integral span sumUp otherThanEnergy regulation reserve movement outcomeAt intervals contribution hourSum
-    sumTo centsOf reply
+    checking pricing outcome energy integral span sumUp otherThanEnergy regulation reserve movement outcomeAt firstStop sumBy
+    sumTo centsOf replyBy
 settling h = reply h false Any 30

@@ -6,14 +6,14 @@ use Prim.Native.Nat.{ℕ, _≤_}
 use native.Mathlib.Omega.{arith}
 use lib.ListN.{length, take}
 use Rattle.intake.specs.Intake.{TakenIn, keptOf, atFirst}
-use Rattle.intake.proofs.Kept.{room-row}
+use Rattle.intake.proofs.Kept.{room-store}
 use Rattle.printed.specs.Printed.{dayText, importText}
 use Rattle.demands.proofs.Printed.{kept-day, kept-import}
 
 -- a row of 409,680 bytes has room for what is kept of 25 pieces: `last` is the row when `take_in` has returned, `count` its reply
 module _ (row last : List ℕ) (count : ℕ) (room : 409679 ≤ length row) (taken : TakenIn row 25 last count) where
   what-is-lent : take count last ≡ keptOf (atFirst 25) (taken .text)
-  what-is-lent = ap₂ (λ (n : ℕ) (l : List ℕ). take n l) (taken .counted) (taken .holds) ∙ room-row row (taken .text) 25 room
+  what-is-lent = ap₂ (λ (n : ℕ) (l : List ℕ). take n l) (taken .counted) (taken .holds) ∙ room-store row (taken .text) 25 room
 
   pub what-day-prints : dayText 24 (take count last) ≡ dayText 24 (taken .text)
   what-day-prints = ap (dayText 24) what-is-lent ∙ kept-day 24 (taken .text) (omega arith)

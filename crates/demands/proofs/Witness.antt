@@ -6,13 +6,11 @@ use mathlib.Core.List.{List, []}
 use Prim.Native.Nat.{ℕ, zero, suc, _<_}
 use native.Mathlib.Omega.{arith}
 use lib.IntN.{ℤ, pos}
-use lib.ListN.{length}
 use lib.Signed.{_≤ℤ_, _<ℤ_}
 use Rattle.exact.proofs.Parts.{arithℤ}
-use Rattle.figures.specs.Sample.{noCurve}
+use Rattle.figures.specs.Sample.{emptyCurve}
 use Rattle.tariff.specs.declared.Curve.{Curve}
 use Rattle.tariff.specs.declared.Hour.{Hour}
-use Rattle.tariff.specs.declared.Marks.{Marks}
 use Rattle.tariff.specs.declared.Expected.{Expected}
 use Rattle.tariff.specs.declared.Expected.the-variants.{Any, Says}
 use Rattle.tariff.specs.Sheet.{endOf, priceOf}
@@ -20,17 +18,19 @@ use Rattle.tariff.specs.Curve.{known, quote}
 use Rattle.tariff.specs.Reply.{paid, clear}
 use Rattle.tariff.specs.Eligible.{excluded}
 use Rattle.tariff.specs.Hour.{order, reply}
-use Rattle.tariff.specs.Demand.{Between, MustPrice, priceIn, NoFaultTo4, Extends}
+use Rattle.tariff.specs.Total.{Pays}
+use Rattle.tariff.specs.Demand.{Between, MustPrice, priceIn, Lawful, Extends}
 use Rattle.tariff.proofs.Demands.{paid-exactly-when-nothing-refuses, more-steps-extend}
 use Rattle.lines.specs.Pieces.{restAfter, piece}
 use Rattle.blocks.specs.Block.{Block, blockOf, read}
 use Rattle.sheet.specs.Settle.{replyTo}
 use Rattle.sheet.specs.Apart.{InThree, CurvesApart}
-use Rattle.header.specs.Header.{headerFault, marksOf, nextUnder}
-use Rattle.ledger.specs.Day.{bodyOf, dayReply}
-use Rattle.ledger.specs.Demand.{Pays, BlocksApart, apart, PricedAlike, priced, DaysApart}
-use Rattle.ledger.proofs.OneHeader.{Headed, one-headed, other-headed}
-use Rattle.ledger.proofs.HourOfDay.{own-block}
+use Rattle.header.specs.Header.{marksOf}
+use Rattle.ledger.specs.Day.{Front, frontOf, dayReply}
+use Rattle.ledger.specs.Demand.{BlocksApart, apart, PricedAlike, priced, DaysApart, BothRead}
+use Rattle.ledger.proofs.HourOfDay.{read-reply}
+use Rattle.ledger.proofs.SheetFront.{front-append}
+use Rattle.ledger.proofs.DayDemands.{sheets-with-one-header-are-apart}
 use Rattle.printed.specs.Printed.{hourText, dayText}
 use Rattle.demands.specs.Small.{first, curves, rest, block, hour, header, day, plain, other, longer, plainRead, otherRead, longerRead}
 use Rattle.demands.proofs.Opened.{reading, cutting, judging, pricing, checking, settling}
@@ -56,13 +56,13 @@ longer-stands : Stands longer longerRead
 unfolding reading cutting
 longer-stands = record { three = record { parts = refl; line1 = refl; lines23 = refl }; reads = refl; whole = refl; ends = refl }
 
-header-clear : headerFault 1 header ≡ clear
+header-clear : frontOf 1 header .fault ≡ clear
 unfolding judging
 header-clear = refl
 
-header-ends : nextUnder (headerFault 1 header) 1 header ≡ length header
+header-alone : frontOf 1 header .body ≡ []
 unfolding judging
-header-ends = refl
+header-alone = refl
 
 header-eligible : excluded 1 (marksOf 1 header) 0 ≡ false
 unfolding judging
@@ -71,15 +71,15 @@ header-eligible = refl
 -- ---- no check from 1 to 4 refuses them, in `hour` or as block 0 of a day, and the first is paid
 
 module _ (expected : Expected) (asked : (c : Curve) → order (hour c) expected ≡ clear) where
-  plain-clear : NoFaultTo4 (hour plainRead) expected
+  plain-clear : Lawful (hour plainRead) expected
   unfolding checking
   plain-clear = record { form = refl; range = refl; order = asked plainRead; curves = refl }
 
-  other-clear : NoFaultTo4 (hour otherRead) expected
+  other-clear : Lawful (hour otherRead) expected
   unfolding checking
   other-clear = record { form = refl; range = refl; order = asked otherRead; curves = refl }
 
-  longer-clear : NoFaultTo4 (hour longerRead) expected
+  longer-clear : Lawful (hour longerRead) expected
   unfolding checking
   longer-clear = record { form = refl; range = refl; order = asked longerRead; curves = refl }
 
@@ -87,7 +87,7 @@ module _ (expected : Expected) (asked : (c : Curve) → order (hour c) expected 
   unfolding settling
   plain-paid =
       paid-exactly-when-nothing-refuses (hour plainRead) false expected 30 (pos 10800000) (pos 3) .1
-      (record { to5 = record { to4 = plain-clear; seconds = refl }; intervals = refl; fits = omega arith }, refl, refl)
+      (record { whole = record { lawful = plain-clear; seconds = refl }; intervals = refl; fits = omega arith }, refl, refl)
 
 any-hour : (c : Curve) → order (hour c) Any ≡ clear
 unfolding checking
@@ -147,6 +147,16 @@ unchanged c = record { keeps = λ k p e. e }
 same-read : (h g : Hour) → read h ≡ read g → h ≡ g
 same-read h g e = cc
 
+-- the day's front is the header
+front-is : (da : List ℕ) → frontOf 1 (day da) ≡ record { fault = clear; hours = 1; isExcluded = excluded 1 (marksOf 1 header); body = block da }
+front-is da = front-append 1 header header-clear header-alone (block da)
+
+eligible : frontOf 1 (day plain) .isExcluded 0 ≡ false
+eligible = ap (λ (f : Front). f .isExcluded 0) (front-is plain) ∙ header-eligible
+
+day-reads : {da : List ℕ} {c : Curve} → Stands da c → blockOf (piece 0 (frontOf 1 (day da) .body)) ≡ read (hour c)
+day-reads {da} t = ap (λ (f : Front). blockOf (piece 0 (f .body))) (front-is da) ∙ ap blockOf (t .whole) ∙ t .reads
+
 module _ {da : List ℕ} {c : Curve} (t : Stands da c) where
   lines-apart : CurvesApart (block plain) (block da)
   lines-apart = record { first = first; curves = curves plain; others = curves da; rest = rest; one = plain-stands .three; other = t .three }
@@ -155,54 +165,20 @@ module _ {da : List ℕ} {c : Curve} (t : Stands da c) where
   pieces-apart zero u = rw (plain-stands .whole, t .whole) (apart lines-apart)
   pieces-apart (suc k) u = absurd (omega arith)
 
-  abbrev days-apart : DaysApart 1 (day plain) (day da)
-  days-apart = record {
-    head = header;
-    body = block plain;
-    other = block da;
-    one-text = refl;
-    other-text = refl;
-    read = header-clear;
-    ends = header-ends;
-    blocks = pieces-apart;
-    behind = plain-stands .ends ∙ sym (t .ends);
-  }
-
-  abbrev one : Headed 1 (marksOf 1 header) (day plain) (block plain)
-  one = one-headed 1 (day plain) (day da) days-apart
-
-  one-reads : blockOf (piece 0 (bodyOf 1 (day plain))) ≡ read (hour plainRead)
-  one-reads = ap (λ (b : List ℕ). blockOf (piece 0 b)) (one .behind) ∙ ap blockOf (plain-stands .whole) ∙ plain-stands .reads
-
-  two-reads : blockOf (piece 0 (bodyOf 1 (day da))) ≡ read (hour c)
-  two-reads = ap (λ (b : List ℕ). blockOf (piece 0 b)) (other-headed 1 (day plain) (day da) days-apart .behind) ∙ ap blockOf (t .whole) ∙ t .reads
-
-  eligible : excluded 1 (marksOf 1 (day plain)) 0 ≡ false
-  eligible = ap (λ (m : Marks). excluded 1 m 0) (one .marks) ∙ header-eligible
+  days-apart : DaysApart (frontOf 1 (day plain)) (frontOf 1 (day da))
+  days-apart =
+      sheets-with-one-header-are-apart 1 header (block plain) (block da) header-clear header-alone
+      pieces-apart (plain-stands .ends ∙ sym (t .ends))
 
   -- what holds of the two records holds of what the days' blocks are read to
-  as-read : (P : ℕ → Hour → Hour → Type 0) → P 0 (hour plainRead) (hour c)
-      → (k : ℕ) → k < 1 → (h g : Hour) → blockOf (piece k (bodyOf 1 (day plain))) ≡ read h → blockOf (piece k (bodyOf 1 (day da))) ≡ read g
-      → P k h g
+  as-read : (P : ℕ → Hour → Hour → Type 0) → P 0 (hour plainRead) (hour c) → BothRead (frontOf 1 (day plain)) (frontOf 1 (day da)) P
   as-read P p zero u h g x y =
-      let e : hour plainRead ≡ h = same-read _ _ (sym one-reads ∙ x) in
-      let f : hour c ≡ g = same-read _ _ (sym two-reads ∙ y) in
+      let e : hour plainRead ≡ h = same-read _ _ (sym (day-reads plain-stands) ∙ x) in
+      let f : hour c ≡ g = same-read _ _ (sym (day-reads t) ∙ y) in
       rw (← e, ← f) p
   as-read P p (suc k) u h g x y = absurd (omega arith)
 
-  day-paid : (k : ℕ) → k < 1 → Pays (dayReply 1 (day plain) k)
-  day-paid zero u = record {
-    sum = pos 10800000;
-    cents = pos 3;
-    pays =
-        own-block 1 (day plain) (one .fault) 0 30 (omega arith)
-        ∙ ap (λ (b : Block). replyTo b (excluded 1 (marksOf 1 (day plain)) 0) (Says (pos 0)) 30) one-reads
-        ∙ ap (λ (x : Bool). reply (hour plainRead) x (Says (pos 0)) 30) eligible
-        ∙ plain-paid (Says (pos 0)) hour-0;
-  }
-  day-paid (suc k) u = absurd (omega arith)
-
--- ---- a block that is paid, and a day whose header is clear and whose block is read
+-- ---- a block that is paid, and a day whose header is clear and whose block is read and paid
 
 pub this-block-is-paid : Pays (replyTo (blockOf (block plain)) false Any 30)
 this-block-is-paid = record {
@@ -211,8 +187,19 @@ this-block-is-paid = record {
   pays = ap (λ (b : Block). replyTo b false Any 30) (plain-stands .reads) ∙ plain-paid Any any-hour;
 }
 
-pub this-day-is-read : (headerFault 1 (day plain) ≡ clear) × (blockOf (piece 0 (bodyOf 1 (day plain))) ≡ read (hour plainRead))
-this-day-is-read = (one plain-stands .fault, one-reads plain-stands)
+pub this-day-is-read : (frontOf 1 (day plain) .fault ≡ clear) × (blockOf (piece 0 (frontOf 1 (day plain) .body)) ≡ read (hour plainRead))
+this-day-is-read = (ap (λ (f : Front). f .fault) (front-is plain), day-reads plain-stands)
+
+this-day-is-paid : (k : ℕ) → k < 1 → Pays (dayReply (frontOf 1 (day plain)) k)
+this-day-is-paid zero u = record {
+  sum = pos 10800000;
+  cents = pos 3;
+  pays =
+      read-reply (frontOf 1 (day plain)) (this-day-is-read .0) 0 (hour plainRead) (this-day-is-read .1)
+      ∙ ap (λ (x : Bool). reply (hour plainRead) x (Says (pos 0)) 30) eligible
+      ∙ plain-paid (Says (pos 0)) hour-0;
+}
+this-day-is-paid (suc k) u = absurd (omega arith)
 
 -- ---- the theorems of the page, of these
 
@@ -224,17 +211,17 @@ these-blocks-are-printed-alike =
 pub these-days-are-printed-alike : dayText 1 (day plain) ≡ dayText 1 (day other)
 these-days-are-printed-alike =
     such-days-are-printed-alike 1 (day plain) (day other) (days-apart other-stands)
-    (as-read other-stands (λ k h g. PricedAlike h g (excluded 1 (marksOf 1 (day plain)) k) (Says (pos k)))
-    (rw (eligible other-stands) (priced (plain-clear (Says (pos 0)) hour-0) (other-clear (Says (pos 0)) hour-0) agree)))
+    (as-read other-stands (λ k h g. PricedAlike h g (frontOf 1 (day plain) .isExcluded k) (Says (pos k)))
+    (rw eligible (priced (plain-clear (Says (pos 0)) hour-0) (other-clear (Says (pos 0)) hour-0) agree)))
 
 pub curve-is-added-to-this-block : hourText (block plain) ≡ hourText (block longer)
 curve-is-added-to-this-block =
     adding-curve-changes-no-byte-of-an-hour (block plain) (block longer) (hour plainRead) (hour longerRead)
-    (lines-apart longer-stands) (plain-stands .reads) (longer-stands .reads) (longer-clear Any any-hour) extended (unchanged noCurve)
+    (lines-apart longer-stands) (plain-stands .reads) (longer-stands .reads) (longer-clear Any any-hour) extended (unchanged emptyCurve)
     this-block-is-paid
 
 pub curve-is-added-to-this-day : dayText 1 (day plain) ≡ dayText 1 (day longer)
 curve-is-added-to-this-day =
-    adding-curve-to-a-day-never-moves-a-cent 1 (day plain) (day longer) (days-apart longer-stands) (day-paid longer-stands)
-    (as-read longer-stands (λ k h g. NoFaultTo4 g (Says (pos k)) × Extends (h .da) (g .da) × Extends (h .rt) (g .rt))
-    (longer-clear (Says (pos 0)) hour-0, extended, unchanged noCurve))
+    adding-curve-to-a-day-never-moves-a-cent 1 (day plain) (day longer) (days-apart longer-stands) this-day-is-paid
+    (as-read longer-stands (λ k h g. Lawful g (Says (pos k)) × Extends (h .da) (g .da) × Extends (h .rt) (g .rt))
+    (longer-clear (Says (pos 0)) hour-0, extended, unchanged emptyCurve))

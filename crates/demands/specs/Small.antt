@@ -8,7 +8,7 @@ use Rattle.tariff.specs.declared.Curve.{Curve}
 use Rattle.tariff.specs.declared.Interval.{Interval}
 use Rattle.tariff.specs.declared.Hour.{Hour}
 use Rattle.tariff.specs.Hour.{blank}
-use Rattle.figures.specs.Sample.{schedules, noCurve, oneStep, twoSteps, energyLine}
+use Rattle.figures.specs.Sample.{schedules, emptyCurve, oneStep, twoSteps, energyQuarter}
 use Rattle.text.specs.Text.{bytes}
 
 -- ---- the block
@@ -29,7 +29,7 @@ abbrev pub block : (da : List ℕ) → List ℕ
 block da = first ++ curves da ++ rest
 
 abbrev quarterRead : Interval
-quarterRead = energyLine (pos 2) (pos 2) (pos 0) (pos 2) (pos 5000) (pos 0)
+quarterRead = energyQuarter (pos 2) (pos 2) (pos 0) (pos 2) (pos 5000) (pos 0)
 
 abbrev pub hour : Curve → Hour
 hour da =
@@ -37,7 +37,7 @@ hour da =
       hour = pos 0;
       ahead = schedules (pos 3) (pos 0) (pos 0);
       da = da;
-      rt = noCurve;
+      rt = emptyCurve;
       n = 4;
       iv = quarterRead ∷ quarterRead ∷ quarterRead ∷ quarterRead ∷ replicate 26 blank;
     }

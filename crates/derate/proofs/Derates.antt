@@ -20,7 +20,7 @@ use Rattle.tariff.proofs.Ranges.{power-within}
 use Rattle.tariff.proofs.Tests.{all-at}
 use Rattle.derate.specs.declared.cuts.Cut.{Cut}
 use Rattle.derate.specs.declared.Derated.{Derated}
-use Rattle.derate.specs.Five.{kwFive, cutFive, kwAt, cutAt, Close, Small}
+use Rattle.derate.specs.Five.{kwFive, cutFive, kwAt, cutAt, Close, SmallFive}
 use Rattle.derate.specs.Derated.{arePowers, deratableUnder, deratable, noRoom, derateOf}
 use Rattle.derate.proofs.Fives.{kws-back, cuts-back, smalls}
 
@@ -65,7 +65,7 @@ in-range {d} {live} {limit} e =
 pub sum-within-range : {d : List Kw} → Close d → {sum : ℤ} → sum ≡ sumTo (kwAt d) 5 → Within 12000000 sum
 sum-within-range {d} c e = rw e (within-lit tt (sum-within 2000000 (kwAt d) 5 (c .close)))
 
-pub pots-small : {d live : List Kw} → Close d → Close live → {pot : List Cut} → pot ≡ cutFive (λ j. over (kwAt d j -ℤ kwAt live j)) → Small pot
+pub pots-small : {d live : List Kw} → Close d → Close live → {pot : List Cut} → pot ≡ cutFive (λ j. over (kwAt d j -ℤ kwAt live j)) → SmallFive pot
 pots-small {d} {live} cd cl e = rw e (smalls _ (λ j u. within-less (cd .close j u) (cl .close j u) .above))
 
 -- ---- with a limit: the schedules, then the potentials, the reduction and the shares

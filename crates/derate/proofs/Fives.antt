@@ -12,7 +12,7 @@ use Rattle.tariff.specs.Derate.{ofFive, floorOf, remainder, leftOver, one, rank
 use Rattle.tariff.proofs.Ranks.{five, at-five}
 use Rattle.tariff.proofs.Shares.{floor-bound, floors-left, share-bound}
 use Rattle.derate.specs.declared.cuts.Cut.{Cut}
-use Rattle.derate.specs.Five.{kwFive, cutFive, kwAt, cutAt, Close, Small, floorBy, remainderBy}
+use Rattle.derate.specs.Five.{kwFive, cutFive, kwAt, cutAt, Close, SmallFive, floorBy, remainderBy}
 
 -- ---- an array filled, and a sum taken, up to place j
 
@@ -83,10 +83,10 @@ kws-back f h = by-place (kwAt (kwFive f)) f refl refl refl refl refl h
 
 -- ---- the ranges of all five
 
-pub small-all : (l : List Cut) → Small l → (cutAt l 0 ≤ 4000000) × (cutAt l 1 ≤ 4000000) × (cutAt l 2 ≤ 4000000) × (cutAt l 3 ≤ 4000000) × (cutAt l 4 ≤ 4000000)
+pub small-all : (l : List Cut) → SmallFive l → (cutAt l 0 ≤ 4000000) × (cutAt l 1 ≤ 4000000) × (cutAt l 2 ≤ 4000000) × (cutAt l 3 ≤ 4000000) × (cutAt l 4 ≤ 4000000)
 small-all l s = five (λ j. cutAt l j ≤ 4000000) (s .small)
 
-pub smalls : (f : ℕ → ℕ) → ((j : ℕ) → j < 5 → f j ≤ 4000000) → Small (cutFive f)
+pub smalls : (f : ℕ → ℕ) → ((j : ℕ) → j < 5 → f j ≤ 4000000) → SmallFive (cutFive f)
 smalls f h = record { small = at-five (λ j. cutAt (cutFive f) j ≤ 4000000) (five (λ j. f j ≤ 4000000) h) }
 
 pub closes : (f : ℕ → ℤ) → ((j : ℕ) → j < 5 → Within 2000000 (f j)) → Close (kwFive f)
@@ -104,12 +104,12 @@ remainder-is pot red room e j = rw e
 
 -- ---- the shares of a reduction that has room
 
-pub shares-small : (pot : List Cut) (red : ℕ) → Small pot → red ≤ ofFive (cutAt pot) → (l : List Cut) → l ≡ cutFive (share (cutAt pot) red) → Small l
+pub shares-small : (pot : List Cut) (red : ℕ) → SmallFive pot → red ≤ ofFive (cutAt pot) → (l : List Cut) → l ≡ cutFive (share (cutAt pot) red) → SmallFive l
 shares-small pot red small fits l e =
     rw e (smalls (share (cutAt pot) red) (λ j u. omega (arith, share-bound (cutAt pot) red fits j, small .small j u)))
 
-module _ (pot : List Cut) (red : ℕ) (small : Small pot) (fits : red ≤ ofFive (cutAt pot)) {low : List Cut} (e : low ≡ cutFive (floorOf (cutAt pot) red)) where
-  pub low-small : Small low
+module _ (pot : List Cut) (red : ℕ) (small : SmallFive pot) (fits : red ≤ ofFive (cutAt pot)) {low : List Cut} (e : low ≡ cutFive (floorOf (cutAt pot) red)) where
+  pub low-small : SmallFive low
   low-small =
       rw e (smalls (floorOf (cutAt pot) red) (λ j u. omega (arith, floor-bound (cutAt pot) red fits j, small .small j u)))
 

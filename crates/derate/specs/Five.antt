@@ -31,7 +31,7 @@ pub record Close (l : List Kw) : Type 0 where
   pub close : (j : ℕ) → j < 5 → Within 2000000 (kwAt l j)
 
 -- each of five cuts is at most the distance of two powers
-pub record Small (l : List Cut) : Type 0 where
+pub record SmallFive (l : List Cut) : Type 0 where
   pub small : (j : ℕ) → j < 5 → cutAt l j ≤ 4000000
 
 -- a potential's part of the reduction in a room: rounded down, and what that leaves

@@ -5,7 +5,7 @@ ghost use lib.Dec.{ltb};
 ghost use lib.IntN.{pos, _-ℤ_};
 ghost use Rattle.exact.specs.Whole.{over, sumTo};
 ghost use Rattle.tariff.specs.Derate.{ofFive, floorOf, remainder, one, rank, share};
-ghost use Rattle.derate.specs.Five.{kwFive, cutFive, kwAt, cutAt, Close, Small};
+ghost use Rattle.derate.specs.Five.{kwFive, cutFive, kwAt, cutAt, Close, SmallFive};
 ghost use Rattle.derate.specs.Derated.{arePowers};
 use crate::cuts;
 use crate::cuts::Cut;
@@ -55,7 +55,7 @@ pub fn potentials(d: [Kw; 5], live: [Kw; 5]) -> [Cut; 5]
 }
 
 pub fn total(c: [Cut; 5]) -> Cut
-    requires { ⌜ Small c ⌝ }
+    requires { ⌜ SmallFive c ⌝ }
     ensures { λ r. ⌜ r .0 ≡ ofFive (cutAt c) ⌝ }
 {
     let mut sum: u64 = 0;
@@ -69,7 +69,7 @@ pub fn total(c: [Cut; 5]) -> Cut
 }
 
 pub fn floors(pot: [Cut; 5], red: Cut, room: Cut) -> [Cut; 5]
-    requires { ⌜ Small pot × (red .0 ≤ 24000000) × (room .0 ≡ ofFive (cutAt pot)) ⌝ }
+    requires { ⌜ SmallFive pot × (red .0 ≤ 24000000) × (room .0 ≡ ofFive (cutAt pot)) ⌝ }
     ensures { λ r. ⌜ r ≡ cutFive (floorOf (cutAt pot) (red .0)) ⌝ }
 {
     let mut low = [Cut(0); 5];
@@ -82,7 +82,7 @@ pub fn floors(pot: [Cut; 5], red: Cut, room: Cut) -> [Cut; 5]
 }
 
 pub fn remainders(pot: [Cut; 5], red: Cut, room: Cut) -> [Cut; 5]
-    requires { ⌜ Small pot × (red .0 ≤ 24000000) × (room .0 ≡ ofFive (cutAt pot)) ⌝ }
+    requires { ⌜ SmallFive pot × (red .0 ≤ 24000000) × (room .0 ≡ ofFive (cutAt pot)) ⌝ }
     ensures { λ r. ⌜ r ≡ cutFive (remainder (cutAt pot) (red .0)) ⌝ }
 {
     let mut rem = [Cut(0); 5];
@@ -111,7 +111,7 @@ pub fn rank_of(rem: [Cut; 5], j: usize) -> u64
 
 // The floors, and the kilowatts that they leave over one each to the largest remainders.
 pub fn hand_out(low: [Cut; 5], rem: [Cut; 5], left: Cut) -> [Cut; 5]
-    requires { ⌜ Small low ⌝ }
+    requires { ⌜ SmallFive low ⌝ }
     ensures { λ r. ⌜ r ≡ cutFive (λ j. cutAt low j + one (ltb (rank (cutAt rem) j) (left .0))) ⌝ }
 {
     let mut shares = [Cut(0); 5];
@@ -124,7 +124,7 @@ pub fn hand_out(low: [Cut; 5], rem: [Cut; 5], left: Cut) -> [Cut; 5]
 }
 
 pub fn shares(pot: [Cut; 5], red: Cut) -> [Cut; 5]
-    requires { ⌜ Small pot × (red .0 ≤ ofFive (cutAt pot)) ⌝ }
+    requires { ⌜ SmallFive pot × (red .0 ≤ ofFive (cutAt pot)) ⌝ }
     ensures { λ r. ⌜ r ≡ cutFive (share (cutAt pot) (red .0)) ⌝ }
 {
     let room = total(pot);
@@ -135,7 +135,7 @@ pub fn shares(pot: [Cut; 5], red: Cut) -> [Cut; 5]
 }
 
 pub fn reduce(d: [Kw; 5], c: [Cut; 5]) -> [Kw; 5]
-    requires { ⌜ Close d × Small c ⌝ }
+    requires { ⌜ Close d × SmallFive c ⌝ }
     ensures { λ r. ⌜ r ≡ kwFive (λ j. kwAt d j -ℤ pos (cutAt c j)) ⌝ }
 {
     let mut q = [Kw(0); 5];

@@ -1,2 +1,1 @@
-pub mod Paid
 pub mod Unique

@@ -11,6 +11,7 @@ use lib.Signed.{ltZ, mag, quotZ}
 use mir.Syntax.{w64}
 use mir.Val.{SFits, toZ, ofZ}
 use mir.Facts.{toZ-ofZ}
+use Rattle.exact.proofs.Apart.{impossible}
 use Rattle.exact.specs.Whole.{over, minℤ, maxℤ, eqZ, Within}
 use Rattle.exact.proofs.Parts.{arithℤ, by-test, min-parts, max-parts, apart, true-eqZ, false-eqZ}
 use Rattle.exact.proofs.Range.{within-add, within-less, within-mul, within-fits}
@@ -93,11 +94,11 @@ over-none a h = omega (arithℤ, apart a)
 
 quot-over : (a : ℤ) (k : ℕ) → ltZ a (pos 0) ≡ false → quotZ a (pos k) ≡ pos (over a / k)
 quot-over (pos n) k h = refl
-quot-over (negsuc n) k h = absurd (let z : _≡_ {A = ℕ} 0 1 = cc in omega arith)
+quot-over (negsuc n) k h = impossible cc
 
 quot-small : (a : ℤ) (k : ℕ) → mag a < 2 ^ 63 → ltZ a (pos 0) ≡ false → SFits w64 (quotZ a (pos k))
 quot-small (pos n) k f h = record { sfits = omega (arith, div-le-self n k) }
-quot-small (negsuc n) k f h = absurd (let z : _≡_ {A = ℕ} 0 1 = cc in omega arith)
+quot-small (negsuc n) k f h = impossible cc
 
 module _ (a : ℤ) (k : ℕ) (fa : mag a < 2 ^ 63) (h : ltZ a (pos 0) ≡ false) where
   quot-held : quotZ (held a) (pos k) ≡ quotZ a (pos k)

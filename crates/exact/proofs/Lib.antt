@@ -4,6 +4,7 @@ pub mod Order
 pub mod Range
 pub mod Bits
 pub mod Sums
+pub mod Apart
 pub mod Tests
 pub mod Calls
 pub mod Held

@@ -7,6 +7,7 @@ use lib.Dec.{T, ltb, ltb→lt, lt→ltb, le→leb, leb→le}
 use borrow.Author.Tests.{ltb-true, ltb-false, leb-false, lt-ltb, le-ltb, le-leb, lt-leb, eq-eqb, ne-eqb}
 use lib.IntN.{ℤ, pos, negsuc, negℤ, subℕ, _+ℤ_, _-ℤ_, _*ℤ_, natAbs}
 use lib.Signed.{_≤ℤ_, _<ℤ_, leZ, ltZ}
+use Rattle.exact.proofs.Apart.{impossible}
 use Rattle.exact.specs.Choice.{if_then_else_}
 use Rattle.exact.specs.Whole.{over, under, minℤ, maxℤ, eqZ, span}
 
@@ -106,7 +107,7 @@ lt-true a b e = lt-parts {a = a} {b = b} (record { lt = is e })
 pub lt-false : (a b : ℤ) → ltZ a b ≡ false → over b + under a ≤ over a + under b
 lt-false (pos a) (pos b) e = omega (arith, ltb-false a b e)
 lt-false (pos a) (negsuc b) e = omega arith
-lt-false (negsuc a) (pos b) e = absurd (let z : _≡_ {A = ℕ} 0 1 = cc in omega arith)
+lt-false (negsuc a) (pos b) e = impossible cc
 lt-false (negsuc a) (negsuc b) e = omega (arith, ltb-false b a e)
 
 pub le-true : (a b : ℤ) → leZ a b ≡ true → over a + under b ≤ over b + under a
@@ -115,7 +116,7 @@ le-true a b e = le-parts {a = a} {b = b} (record { le = is e })
 pub le-false : (a b : ℤ) → leZ a b ≡ false → over b + under a < over a + under b
 le-false (pos a) (pos b) e = omega (arith, leb-false a b e)
 le-false (pos a) (negsuc b) e = omega arith
-le-false (negsuc a) (pos b) e = absurd (let z : _≡_ {A = ℕ} 0 1 = cc in omega arith)
+le-false (negsuc a) (pos b) e = impossible cc
 le-false (negsuc a) (negsuc b) e = omega (arith, leb-false b a e)
 
 pub true-lt : (a b : ℤ) → over a + under b < over b + under a → ltZ a b ≡ true

@@ -29,8 +29,8 @@ schedules en reg r1 =
       b3 = price (pos 0);
     }
 
-abbrev pub noCurve : Curve
-noCurve = record { start = kw (pos 0); n = 0; to = replicate 12 (kw (pos 0)); at = replicate 12 (price (pos 0)) }
+abbrev pub emptyCurve : Curve
+emptyCurve = record { start = kw (pos 0); n = 0; to = replicate 12 (kw (pos 0)); at = replicate 12 (price (pos 0)) }
 
 abbrev pub oneStep : (start to at : ℤ) → Curve
 oneStep start to at =
@@ -45,8 +45,8 @@ twoSteps to at to′ at′ =
       at = price at ∷ price at′ ∷ replicate 10 (price (pos 0));
     }
 
-abbrev pub line : (en ae co eop pen lim : ℤ) → Uol → (r1 mv pmv bmv : ℤ) → Interval
-line en ae co eop pen lim uol r1 mv pmv bmv =
+abbrev pub quarter : (en ae co eop pen lim : ℤ) → Uol → (r1 mv pmv bmv : ℤ) → Interval
+quarter en ae co eop pen lim uol r1 mv pmv bmv =
     record {
       s = seconds (pos 900);
       en = kw en;
@@ -71,11 +71,11 @@ line en ae co eop pen lim uol r1 mv pmv bmv =
     }
 
 -- an interval of energy alone; and one without energy, whose output of 1 kW is above its limit
-abbrev pub energyLine : (en ae co eop pen lim : ℤ) → Interval
-energyLine en ae co eop pen lim = line en ae co eop pen lim Missing (pos 0) (pos 0) (pos 0) (pos 0)
+abbrev pub energyQuarter : (en ae co eop pen lim : ℤ) → Interval
+energyQuarter en ae co eop pen lim = quarter en ae co eop pen lim Missing (pos 0) (pos 0) (pos 0) (pos 0)
 
-abbrev pub idleLine : Uol → (r1 mv pmv bmv : ℤ) → Interval
-idleLine = line (pos 0) (pos 1) (pos 0) (pos 0) (pos 0) (pos 0)
+abbrev pub idleQuarter : Uol → (r1 mv pmv bmv : ℤ) → Interval
+idleQuarter = quarter (pos 0) (pos 1) (pos 0) (pos 0) (pos 0) (pos 0)
 
 abbrev pub hourOf : DayAhead → (da rt : Curve) → (i₁ i₂ i₃ i₄ : Interval) → Hour
 hourOf ahead da rt i₁ i₂ i₃ i₄ =
@@ -93,10 +93,10 @@ worked =
     (schedules (pos 100000) (pos 0) (pos 0))
     (twoSteps (pos 60000) (pos 2000) (pos 100000) (pos 3500))
     (twoSteps (pos 60000) (pos 2000) (pos 120000) (pos 4000))
-    (energyLine (pos 80000) (pos 80000) (pos 0) (pos 90000) (pos 5000) (pos 70000))
-    (energyLine (pos 50000) (pos 70000) (pos 3000) (pos 90000) (pos 5000) (pos 45000))
-    (energyLine (pos 110000) (pos 110000) (pos 0) (pos 120000) (pos 5000) (pos 100000))
-    (energyLine (pos 100000) (pos 95000) (pos 0) (pos 100000) (pos 5000) (pos 95000))
+    (energyQuarter (pos 80000) (pos 80000) (pos 0) (pos 90000) (pos 5000) (pos 70000))
+    (energyQuarter (pos 50000) (pos 70000) (pos 3000) (pos 90000) (pos 5000) (pos 45000))
+    (energyQuarter (pos 110000) (pos 110000) (pos 0) (pos 120000) (pos 5000) (pos 100000))
+    (energyQuarter (pos 100000) (pos 95000) (pos 0) (pos 100000) (pos 5000) (pos 95000))
 
 -- P5
 abbrev pub withdrawing : Hour
@@ -104,29 +104,29 @@ withdrawing =
     steady
     (schedules (negℤ (pos 50000)) (pos 0) (pos 0))
     (oneStep (negℤ (pos 50000)) (pos 0) (pos 1500))
-    noCurve
-    (energyLine (negℤ (pos 20000)) (negℤ (pos 20000)) (pos 0) (negℤ (pos 30000)) (pos 1000) (negℤ (pos 50000)))
+    emptyCurve
+    (energyQuarter (negℤ (pos 20000)) (negℤ (pos 20000)) (pos 0) (negℤ (pos 30000)) (pos 1000) (negℤ (pos 50000)))
 
 -- P7
 abbrev pub moving : Hour
-moving = steady (schedules (pos 0) (pos 0) (pos 0)) noCurve noCurve (idleLine Missing (pos 0) (pos 2000) (pos 30) (pos 10))
+moving = steady (schedules (pos 0) (pos 0) (pos 0)) emptyCurve emptyCurve (idleQuarter Missing (pos 0) (pos 2000) (pos 30) (pos 10))
 
 -- P9: the limit takes 10000 kW off; and it takes all off, with a kilowatt of reserve that real time has as well
 abbrev pub derating : Hour
 derating =
     steady
     (schedules (pos 20000) (pos 10000) (pos 0))
-    noCurve
-    noCurve
-    (idleLine (At (kw (pos 20000))) (pos 0) (pos 0) (pos 0) (pos 0))
+    emptyCurve
+    emptyCurve
+    (idleQuarter (At (kw (pos 20000))) (pos 0) (pos 0) (pos 0) (pos 0))
 
 abbrev pub overDerated : Hour
 overDerated =
     steady
     (schedules (pos 20000) (pos 10000) (pos 1))
-    noCurve
-    noCurve
-    (idleLine (At (kw (pos 0))) (pos 1) (pos 0) (pos 0) (pos 0))
+    emptyCurve
+    emptyCurve
+    (idleQuarter (At (kw (pos 0))) (pos 1) (pos 0) (pos 0) (pos 0))
 
 -- P10: category (i) everywhere, and x4 at hour 5 alone
 abbrev pub marks : Marks
@@ -148,5 +148,5 @@ shortCurve =
     steady
     (schedules (pos 100000) (pos 0) (pos 0))
     (oneStep (pos 0) (pos 99999) (pos 3500))
-    noCurve
-    (energyLine (pos 80000) (pos 80000) (pos 0) (pos 90000) (pos 5000) (pos 70000))
+    emptyCurve
+    (energyQuarter (pos 80000) (pos 80000) (pos 0) (pos 90000) (pos 5000) (pos 70000))

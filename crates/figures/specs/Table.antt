@@ -14,11 +14,12 @@ use Rattle.tariff.specs.declared.Expected.the-variants.{Any}
 use Rattle.tariff.specs.Units.{centsOf}
 use Rattle.tariff.specs.Sheet.{allTo, aheadInRange, curveInRange, intervalInRange, curveKeeps}
 use Rattle.tariff.specs.Curve.{quoteFrom, quote, sumUp, integral}
-use Rattle.tariff.specs.Reply.{Reply, paid, refused, DERATE, REACH, firstOf}
+use Rattle.tariff.specs.Reply.{Reply, paid, refused, firstOf}
 use Rattle.tariff.specs.Eligible.{someTo, excluded}
 use Rattle.tariff.specs.Derate.{redTot, potRed, floorOf, remainder, leftOver, one, share, exceedsRoom, reduced}
 use Rattle.tariff.specs.Contributions.{lowerLimit, upperLimit, energy, reserve, regulation, movement, otherThanEnergy}
-use Rattle.tariff.specs.Hour.{interval, form, range, order, curves, secondsSum, Outcome, gives, derated, unreached, outcome, outcomeAt, intervals, reply}
+use Rattle.tariff.specs.Hour.{interval, form, range, order, curves, secondsSum, outcome, outcomeAt, reply}
+use Rattle.tariff.specs.Outcome.{Outcome, gives, stops, firstStop, replyBy}
 use Rattle.figures.specs.Sample.{worked, withdrawing, moving, derating, overDerated, marks, shortCurve}
 use Rattle.figures.specs.Worked.{worked-gives, worked-paid}
 
@@ -42,10 +43,9 @@ pub data Holds : List Row → Type 0 where
 
 -- ---- answers as numbers: 0 and the amounts, or the number of the check that refuses, so that no refusal passes for an amount
 
-abbrev pub told : Outcome → List ℤ
-told (gives grains) = pos 0 ∷ grains ∷ []
-told derated = pos DERATE ∷ []
-told unreached = pos REACH ∷ []
+abbrev pub said : Outcome → List ℤ
+said (gives grains) = pos 0 ∷ grains ∷ []
+said (stops number) = pos number ∷ []
 
 abbrev pub replied : Reply → List ℤ
 replied (paid sum cents) = pos 0 ∷ sum ∷ cents ∷ []
@@ -53,7 +53,7 @@ replied (refused number place) = pos number ∷ pos place ∷ []
 
 -- interval i, from 0; and the whole hour, eligible, of any number, with a row of 30 entries
 abbrev pub at : Hour → ℕ → List ℤ
-at h i = told (outcome h (interval h i))
+at h i = said (outcome h (interval h i))
 
 abbrev pub whole : Hour → List ℤ
 whole h = replied (reply h false Any 30)
@@ -98,11 +98,11 @@ pub figures-hold : Holds figures
 unfolding
     outcome exceedsRoom reduced energy lowerLimit upperLimit minℤ maxℤ integral span sumUp quote quoteFrom otherThanEnergy regulation reserve movement
     centsOf upTo share floorOf remainder leftOver excluded someTo
-    reply form range aheadInRange curveInRange intervalInRange allTo firstOf order curves curveKeeps secondsSum sumTo intervals outcomeAt
+    replyBy form range aheadInRange curveInRange intervalInRange allTo firstOf order curves curveKeeps secondsSum sumTo firstStop outcomeAt
 figures-hold =
-    ap told (worked-gives .0)
-    and ap told (worked-gives .1)
-    and ap told (worked-gives .2)
-    and ap told (worked-gives .3)
+    ap said (worked-gives .0)
+    and ap said (worked-gives .1)
+    and ap said (worked-gives .2)
+    and ap said (worked-gives .3)
     and ap replied worked-paid
     and refl and refl and refl and refl and refl and refl and refl and refl and refl and refl and done

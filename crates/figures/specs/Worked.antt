@@ -10,7 +10,8 @@ use Rattle.tariff.specs.Curve.{quoteFrom, quote, sumUp, integral}
 use Rattle.tariff.specs.Reply.{paid, firstOf}
 use Rattle.tariff.specs.Derate.{exceedsRoom, reduced}
 use Rattle.tariff.specs.Contributions.{lowerLimit, upperLimit, energy, reserve, regulation, movement, otherThanEnergy}
-use Rattle.tariff.specs.Hour.{interval, form, range, order, curves, secondsSum, gives, outcome, outcomeAt, intervals, contribution, hourSum, reply}
+use Rattle.tariff.specs.Hour.{interval, form, range, order, curves, secondsSum, outcome, outcomeAt, reply}
+use Rattle.tariff.specs.Outcome.{gives, firstStop, replyBy, sumBy}
 use Rattle.figures.specs.Sample.{worked}
 
 pub worked-gives :
@@ -22,5 +23,5 @@ unfolding outcome exceedsRoom reduced energy lowerLimit upperLimit minℤ maxℤ
 worked-gives = (refl, refl, refl, refl)
 
 pub worked-paid : reply worked false Any 30 ≡ paid (pos 90900000000) (pos 25250)
-unfolding reply form range aheadInRange curveInRange intervalInRange allTo firstOf order curves curveKeeps secondsSum intervals outcomeAt contribution hourSum sumTo centsOf
+unfolding replyBy form range aheadInRange curveInRange intervalInRange allTo firstOf order curves curveKeeps secondsSum firstStop outcomeAt sumBy sumTo centsOf
 worked-paid = rw (worked-gives .0, worked-gives .1, worked-gives .2, worked-gives .3)

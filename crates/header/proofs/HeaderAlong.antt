@@ -1,54 +1,50 @@
 -- A header without fault is decided by its own bytes: whatever follows it, it is the same.
 use mathlib.Core.Path.{_≡_, sym, _∙_, ap}
-use mathlib.Core.List.{List, _++_}
-use Prim.Native.Nat.{ℕ, _+_, _<_}
-use native.Mathlib.Nat.{zero-add}
-use native.Mathlib.Omega.{arith}
-use lib.ListN.{length, List·getD-append}
+use mathlib.Core.Bool.{Bool, true, false}
+use mathlib.Core.List.{List, [], _∷_, _++_}
+use Prim.Native.Nat.{ℕ, _+_}
+use lib.Dec.{eqb}
+use lib.ListN.{length}
+use lib.Seq.{take-append-seam}
+use Rattle.exact.specs.Choice.{if_then_else_}
 use Rattle.tariff.specs.Reply.{clear}
-use Rattle.text.specs.Text.{byteAt}
-use Rattle.lines.proofs.Along.{closing, Along}
-use Rattle.lines.proofs.Ended.{feed-ends}
-use Rattle.header.specs.Header.{headerLine, headerFault, marksOf, nextUnder}
-use Rattle.header.proofs.HeaderLines.{startOf}
-use Rattle.header.proofs.HeaderAlike.{Alike, fault-alike, marks-alike, next-alike}
-use Rattle.header.proofs.HeaderEnds.{LineEnds, form-clear, clear-line, clear-ends, clear-next}
-use Rattle.header.proofs.HeaderFirst.{form-alike}
+use Rattle.text.specs.declared.Next.the-variants.{At}
+use Rattle.lines.specs.Line.{placeIn}
+use Rattle.lines.specs.Cut.{emptyIn}
+use Rattle.lines.specs.Pieces.{firstPiece}
+use Rattle.lines.proofs.Along.{never-at}
+use Rattle.header.specs.Header.{headerFault, marksOf, nextUnder}
+use Rattle.header.proofs.HeaderBehind.{clear-empty}
+use Rattle.header.proofs.HeaderFirst.{SameHeader, first-header}
 
-module _ (hours : ℕ) (s t : List ℕ) (e : headerFault hours s ≡ clear) (agree : (i : ℕ) → i < startOf hours s 11 → byteAt s i ≡ byteAt t i) where
-  -- its tenth line, and the empty one behind it
-  tenth : LineEnds s (startOf hours s 9) (startOf hours s 10)
-  tenth = clear-ends hours s e 9 (omega arith)
-
-  last-feed : (byteAt s (startOf hours s 10) ≡ 10) × (startOf hours s 10 + 1 ≡ startOf hours s 11)
-  unfolding headerLine
-  last-feed = feed-ends s (startOf hours s 10) (startOf hours s 11) (clear-line hours s e 10 (omega arith))
-
-  along : (i : ℕ) → i < startOf hours s 11 → byteAt s i ≡ 10 → Along s t 0 0 i
-  along i u f = record { same = λ j l. rw zero-add (agree j (omega arith)); stop = rw zero-add (ap closing f) }
-
-  pub clear-alike : Alike hours s t
-  clear-alike =
-      let next = tenth .next in
-      let last = last-feed .1 in
-      form-alike hours s t (startOf hours s 9 + tenth .long)
-      (along _ (omega arith) (tenth .feed))
-      (along _ (omega arith) (ap (byteAt s) next ∙ last-feed .0))
-      (form-clear hours s e)
+-- an empty line that is found is found whatever follows
+empty-append : (start : Bool) (x body : List ℕ) (i k : ℕ) → emptyIn start x i ≡ At k → emptyIn start (x ++ body) i ≡ At k
+unfolding emptyIn
+empty-append start [] body i k = λ e. absurd (never-at e)
+empty-append start (b ∷ x) body i k = go (eqb b 10) start (λ s. empty-append s x body (i + 1) k)
+  where
+    go : (feed begins : Bool) → ((s : Bool) → emptyIn s x (i + 1) ≡ At k → emptyIn s (x ++ body) (i + 1) ≡ At k)
+        → (if feed then (if begins then At (i + 1) else emptyIn true x (i + 1)) else emptyIn false x (i + 1)) ≡ At k
+        → (if feed then (if begins then At (i + 1) else emptyIn true (x ++ body) (i + 1)) else emptyIn false (x ++ body) (i + 1)) ≡ At k
+    go true true more e = e
+    go true false more e = more true e
+    go false begins more e = more false e
 
 -- ---- a header and what follows it
-module _ (hours : ℕ) (head : List ℕ) (e : headerFault hours head ≡ clear) (n : nextUnder (headerFault hours head) hours head ≡ length head) (body : List ℕ) where
-  all-of-it : startOf hours head 11 ≡ length head
-  all-of-it = sym (clear-next hours head e) ∙ n
+module _ (hours : ℕ) (head : List ℕ) (e : headerFault hours head ≡ clear)
+    (n : nextUnder (headerFault hours head) hours head ≡ length head) (body : List ℕ) where
+  ends : emptyIn true (head ++ body) 0 ≡ At (length head)
+  ends = empty-append true head body 0 (length head) (clear-empty hours head e ∙ ap At n)
 
-  append-alike : Alike hours head (head ++ body)
-  append-alike = clear-alike hours head (head ++ body) e (λ i u. sym (List·getD-append head body 256 i (let h = all-of-it in omega arith)))
+  same : SameHeader hours (head ++ body) head
+  unfolding firstPiece
+  same = rw (ends, take-append-seam head body) at (first-header hours (head ++ body))
 
   pub fault-append : headerFault hours (head ++ body) ≡ clear
-  fault-append = sym (fault-alike append-alike) ∙ e
+  fault-append = same .fault ∙ e
 
   pub marks-append : marksOf hours (head ++ body) ≡ marksOf hours head
-  marks-append = sym (marks-alike append-alike)
+  marks-append = rw (fault-append, e) at (same .marks)
 
   pub next-append : nextUnder (headerFault hours (head ++ body)) hours (head ++ body) ≡ length head
-  next-append = sym (next-alike append-alike) ∙ n
+  next-append = ap placeIn (sym (clear-empty hours (head ++ body) fault-append) ∙ ends)

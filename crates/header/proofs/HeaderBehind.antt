@@ -1,70 +1,97 @@
 -- Behind a header without fault stands what stands behind the first empty line of its text.
 use mathlib.Core.Path.{_≡_, refl, sym, _∙_, ap}
-use mathlib.Core.Bool.{true}
+use mathlib.Core.Bool.{Bool, true, false, false≢true}
 use mathlib.Core.List.{List}
 use Prim.Native.Nat.{ℕ, zero, suc, _+_, _≤_, _<_}
 use native.Mathlib.Nat.{add-zero}
 use native.Mathlib.Omega.{arith}
-use borrow.Author.Tests.{lt-ltb}
+use borrow.Author.Tests.{ltb-true}
 use lib.Dec.{ltb}
-use lib.ListN.{drop}
+use lib.ListN.{drop, length}
+use Rattle.tariff.specs.Sheet.{allTo}
 use Rattle.tariff.specs.Reply.{clear}
+use Rattle.tariff.proofs.Tests.{all-at}
 use Rattle.text.specs.Text.{byteAt}
 use Rattle.text.specs.declared.Next.{Next}
 use Rattle.text.specs.declared.Next.the-variants.{At, Wrong}
-use Rattle.text.proofs.Keys.{either-way}
-use Rattle.keys.specs.Keys.{keys, keyOf}
-use Rattle.lines.specs.Line.{lineAt}
+use Rattle.keys.specs.Keys.{KEYS, keys, keyOf}
+use Rattle.lines.specs.Line.{lineFeed}
 use Rattle.lines.specs.Cut.{emptyIn, behind}
 use Rattle.lines.proofs.Along.{closing, never-at}
 use Rattle.keys.proofs.AllKeys.{table-at}
 use Rattle.lines.proofs.Ended.{opens, key-closed, fields-closed}
 use Rattle.lines.proofs.Cut.{behind-at}
 use Rattle.lines.proofs.Passed.{feed-empty, pass}
-use Rattle.header.specs.Header.{rowAt, headerLine, linePlace, headerFault, nextUnder}
-use Rattle.header.proofs.HeaderLines.{startOf}
-use Rattle.header.proofs.HeaderEnds.{clear-line, clear-ends, clear-next}
+use Rattle.header.specs.declared.layout.Line.{Line}
+use Rattle.header.specs.declared.layout.Line.the-variants.{Number, Row, Close}
+use Rattle.header.specs.Layout.{lineIn, rowAt, saidAt, headerLine, linePlace, layoutForm}
+use Rattle.header.specs.Header.{form1, headerFault, nextUnder}
+use Rattle.header.proofs.HeaderLines.{close-line, startOf}
+use Rattle.header.proofs.HeaderEnds.{form-clear, line-read, read-ends}
 
--- ---- none of the first ten lines is empty
-module _ (hours j : ℕ) (s : List ℕ) (at : ℕ) (u : j < 10) where
-  pub key-opens : opens (keyOf (48 + j)) ≡ true
-  key-opens = let few : 48 + j < 58 = omega arith in table-at opens keys (48 + j) few refl
+-- ---- a line that opens with a key of the table is not empty
+abbrev pub opensLine : Line → Bool
+opensLine (Number key least most) = ltb key KEYS
+opensLine (Row key admitted) = ltb key KEYS
+opensLine Close = false
 
-  pub line-closed : closing (byteAt s at) ≡ true → headerLine hours j s at ≡ Wrong
-  unfolding headerLine lineAt rowAt
-  line-closed c = rw (lt-ltb j 10 u, fields-closed s at c (48 + j) 0 key-opens, key-closed s at c (keyOf (48 + j)) key-opens) (either-way (ltb j 3))
+key-opens : (key : ℕ) → ltb key KEYS ≡ true → opens (keyOf key) ≡ true
+key-opens key e = table-at opens keys key (ltb-true key KEYS e) refl
 
-  not-a-feed : (k : ℕ) → headerLine hours j s at ≡ At k → byteAt s at ≡ 10 → ⊥
-  not-a-feed k e f = never-at (sym (line-closed (ap closing f)) ∙ e)
+pub line-closed : (hours : ℕ) (line : Line) (s : List ℕ) (at : ℕ) → opensLine line ≡ true → closing (byteAt s at) ≡ true → headerLine hours line s at ≡ Wrong
+unfolding headerLine saidAt rowAt
+line-closed hours (Number key least most) s at o c = rw (fields-closed s at c key 0 (key-opens key o))
+line-closed hours (Row key admitted) s at o c = rw (key-closed s at c (keyOf key) (key-opens key o))
+line-closed hours Close s at o c = absurd (false≢true o)
 
--- ---- the header's lines, one by one
-module _ (hours : ℕ) (s : List ℕ) (e : headerFault hours s ≡ clear) where
+-- ---- a layout of such lines, and behind them the closing one
+pub record Closed (layout : List Line) : Type 0 where
+  pub last : ℕ
+  pub long : length layout ≡ suc last
+  pub front : (j : ℕ) → j < last → opensLine (lineIn layout j) ≡ true
+  pub close : lineIn layout last ≡ Close
+
+pub form1-closed : Closed form1
+unfolding allTo
+form1-closed =
+    record { last = 10; long = refl; front = λ j u. all-at (λ k. opensLine (lineIn form1 k)) 10 j refl u; close = refl }
+
+-- ---- a header's lines, one by one
+module _ (layout : List Line) (o : Closed layout) (hours : ℕ) (s : List ℕ) (e : layoutForm layout hours s ≡ clear) where
+  abbrev start : ℕ → ℕ
+  start = startOf layout hours s
+
   from : ℕ → Next
-  from j = emptyIn true (drop (startOf hours s j) s) (startOf hours s j)
+  from j = emptyIn true (drop (start j) s) (start j)
 
-  line-passed : (j : ℕ) → j < 10 → from j ≡ from (suc j)
+  line-passed : (j : ℕ) → j < o .last → from j ≡ from (suc j)
   unfolding from
   line-passed j u =
-      let line = clear-ends hours s e j (omega arith) in
-      let i = startOf hours s j in
+      let inside : j < length layout = let l = o .long in omega arith in
+      let line = read-ends layout hours s e j inside in
+      let i = start j in
       pass s (line .long) i true
       (λ m l z. let more = line .first m (ap closing z) in omega arith)
       (line .feed)
-      (λ z. absurd (not-a-feed hours j s i u _ (clear-line hours s e j (omega arith)) (ap (byteAt s) (sym (add-zero i) ∙ ap (λ (x : ℕ). i + x) (sym z)) ∙ line .feed)))
+      (λ z.
+      let f : byteAt s i ≡ 10 = ap (byteAt s) (sym (add-zero i) ∙ ap (λ (x : ℕ). i + x) (sym z)) ∙ line .feed in
+      absurd (never-at (sym (line-closed hours (lineIn layout j) s i (o .front j u) (ap closing f)) ∙ line-read layout hours s e j inside)))
       ∙ ap (λ (k : ℕ). emptyIn true (drop k s) k) (line .next)
 
-  lines-passed : (j : ℕ) → j ≤ 10 → from 0 ≡ from j
+  lines-passed : (j : ℕ) → j ≤ o .last → from 0 ≡ from j
   lines-passed zero u = refl
-  lines-passed (suc j) u = lines-passed j (omega arith) ∙ line-passed j u
+  lines-passed (suc j) u = lines-passed j (omega arith) ∙ line-passed j (omega arith)
 
-  -- the eleventh is a line feed alone
-  last-feed : from 10 ≡ At (startOf hours s 11)
-  unfolding from headerLine
-  last-feed = feed-empty s (startOf hours s 10) (startOf hours s 11) (clear-line hours s e 10 (omega arith))
+  -- the closing one is a line feed alone
+  close-read : lineFeed s (start (o .last)) ≡ At (start (suc (o .last)))
+  close-read = sym (close-line hours s _ (o .close)) ∙ line-read layout hours s e (o .last) (let l = o .long in omega arith)
 
-  pub first-empty : emptyIn true s 0 ≡ At (startOf hours s 11)
+  first-empty : emptyIn true s 0 ≡ At (start (length layout))
   unfolding from linePlace
-  first-empty = lines-passed 10 (omega arith) ∙ last-feed
+  first-empty = rw (o .long) (lines-passed (o .last) (omega arith) ∙ feed-empty s _ _ close-read)
 
-  pub clear-behind : drop (nextUnder (headerFault hours s) hours s) s ≡ behind s
-  clear-behind = ap (λ (n : ℕ). drop n s) (clear-next hours s e) ∙ behind-at s 0 (startOf hours s 11) first-empty
+pub clear-empty : (hours : ℕ) (s : List ℕ) → headerFault hours s ≡ clear → emptyIn true s 0 ≡ At (nextUnder (headerFault hours s) hours s)
+clear-empty hours s e = rw e (first-empty form1 form1-closed hours s (form-clear form1 hours s e))
+
+pub clear-behind : (hours : ℕ) (s : List ℕ) → headerFault hours s ≡ clear → drop (nextUnder (headerFault hours s) hours s) s ≡ behind s
+clear-behind hours s e = behind-at s 0 _ (clear-empty hours s e)

@@ -11,36 +11,22 @@ use lib.ListN.{length, List·getD-eq-default}
 use Rattle.exact.specs.Choice.{if_then_else_}
 use Rattle.exact.proofs.Parts.{by-test}
 use Rattle.tariff.specs.Sheet.{allTo}
-use Rattle.tariff.specs.Reply.{Verdict, clear}
-use Rattle.tariff.proofs.Checks.{then-clear, unless-clear, first-clear}
-use Rattle.text.specs.Text.{byteAt, keyAt}
+use Rattle.tariff.specs.Reply.{FORM, Verdict, clear, fault}
+use Rattle.tariff.proofs.Checks.{then-clear}
+use Rattle.text.specs.Text.{byteAt}
 use Rattle.text.specs.Number.{digitAt}
 use Rattle.text.specs.declared.Next.{Next}
 use Rattle.text.specs.declared.Next.the-variants.{At, Wrong}
 use Rattle.keys.specs.Keys.{keyOf}
-use Rattle.lines.specs.Line.{isAt, andThen, afterFields, lineFeed, lineAt}
-use Rattle.lines.proofs.Along.{closing, Along, Moved, both, neither, choose, never-at, went, moved-then, digit-same, digit-on, key-printed, key-along, fields-along}
-use Rattle.lines.proofs.Ended.{feed-ends, feed-along}
-use Rattle.header.specs.Header.{digitsAt, rowAt, headerLine, linePlace, headerForm, headerRange, headerFault, nextUnder}
+use Rattle.lines.specs.Line.{placeIn, andThen, lineFeed}
+use Rattle.lines.proofs.Along.{closing, Along, Moved, both, neither, never-at, went, moved-then, digit-same, digit-on, key-printed, key-along, fields-along}
+use Rattle.lines.proofs.Ended.{feed-ends, feed-along, feed-inside}
+use Rattle.header.specs.declared.layout.Line.{Line}
+use Rattle.header.specs.declared.layout.Line.the-variants.{Number, Row, Close}
+use Rattle.header.specs.Layout.{lineIn, digitsAt, rowAt, saidAt, headerLine, linePlace, layoutForm, layoutRange, layoutFault}
+use Rattle.header.specs.Header.{form1, headerFault, nextUnder}
 use Rattle.header.proofs.Digits.{isDigit}
-use Rattle.header.proofs.HeaderLines.{is-at, formAt, startOf}
-
--- ---- a line is what stands in front of its line feed, and that
-abbrev pub beforeFeed : (hours j : ℕ) → List ℕ → ℕ → Next
-beforeFeed hours j s at =
-    if ltb j 3
-    then afterFields (48 + j) 1 s at
-    else (if ltb j 10 then andThen (keyAt (keyOf (48 + j)) s at) (digitsAt hours s) else At at)
-
-line-parts : (hours j : ℕ) (s : List ℕ) (at : ℕ) → headerLine hours j s at ≡ andThen (beforeFeed hours j s at) (lineFeed s)
-unfolding headerLine lineAt rowAt
-line-parts hours j s at = go (ltb j 3) (ltb j 10)
-  where
-    go : (a b : Bool) → (if a then lineAt (48 + j) 1 s at else (if b then rowAt hours (48 + j) s at else lineFeed s at))
-        ≡ andThen (if a then afterFields (48 + j) 1 s at else (if b then andThen (keyAt (keyOf (48 + j)) s at) (digitsAt hours s) else At at)) (lineFeed s)
-    go true b = refl
-    go false true = refl
-    go false false = refl
+use Rattle.header.proofs.HeaderLines.{is-at, none-refused, isPlaced, startOf}
 
 -- ---- the same bytes up to the end of a line: k digits up to a place of at most m, or no such row
 data Counted (k m : ℕ) : Bool → Bool → Type 0 where
@@ -75,18 +61,19 @@ module _ {s t : List ℕ} {p q m : ℕ} (o : Along s t p q m) where
         go (counted l) = rw (add-assoc p i hours, add-assoc q i hours) (both (i + hours) l)
         go stopped = neither
 
-    pub row-along : (j i : ℕ) → i ≤ m
-        → Moved p q m (andThen (keyAt (keyOf (48 + j)) s (p + i)) (digitsAt hours s)) (andThen (keyAt (keyOf (48 + j)) t (q + i)) (digitsAt hours t))
-    row-along j i u = moved-then _ _ (key-along o (keyOf (48 + j)) (key-printed (48 + j)) i u) digits-along
+    pub row-along : (key i : ℕ) → i ≤ m → Moved p q m (rowAt hours key s (p + i)) (rowAt hours key t (q + i))
+    unfolding rowAt
+    row-along key i u = moved-then _ _ (key-along o (keyOf key) (key-printed key) i u) digits-along
 
-    before-along : (j i : ℕ) → i ≤ m → Moved p q m (beforeFeed hours j s (p + i)) (beforeFeed hours j t (q + i))
-    before-along j i u =
-        choose (Moved p q m) (ltb j 3)
-        (λ e. fields-along o (48 + j) 1 i u)
-        (λ e. choose (Moved p q m) (ltb j 10) (λ f. row-along j i u) (λ f. both i u))
+    said-along : (line : Line) (i : ℕ) → i ≤ m → Moved p q m (saidAt hours line s (p + i)) (saidAt hours line t (q + i))
+    unfolding saidAt
+    said-along (Number key least most) i u = fields-along o key 1 i u
+    said-along (Row key admitted) i u = row-along key i u
+    said-along Close i u = both i u
 
-    pub line-along : (j i : ℕ) → i ≤ m → Moved p q (m + 1) (headerLine hours j s (p + i)) (headerLine hours j t (q + i))
-    line-along j i u = rw (line-parts hours j s (p + i), line-parts hours j t (q + i)) (moved-then _ _ (before-along j i u) (feed-along o))
+    pub line-along : (line : Line) (i : ℕ) → i ≤ m → Moved p q (m + 1) (headerLine hours line s (p + i)) (headerLine hours line t (q + i))
+    unfolding headerLine
+    line-along line i u = moved-then _ _ (said-along line i u) (feed-along o)
 
 -- ---- where a line ends: from i on it has `long` bytes and then a line feed, the first byte that ends a line; the next begins at k
 pub record LineEnds (s : List ℕ) (i k : ℕ) : Type 0 where
@@ -95,12 +82,12 @@ pub record LineEnds (s : List ℕ) (i k : ℕ) : Type 0 where
   pub feed : byteAt s (i + long) ≡ 10
   pub first : (m : ℕ) → closing (byteAt s (i + m)) ≡ true → long ≤ m
 
-module _ (hours j : ℕ) (s : List ℕ) (i : ℕ) where
-  before-within : (m x : ℕ) → closing (byteAt s (i + m)) ≡ true → beforeFeed hours j s i ≡ At x → (i ≤ x) × (x ≤ i + m)
-  before-within m x c e =
+module _ (hours : ℕ) (line : Line) (s : List ℕ) (i : ℕ) where
+  said-within : (m x : ℕ) → closing (byteAt s (i + m)) ≡ true → saidAt hours line s i ≡ At x → (i ≤ x) × (x ≤ i + m)
+  said-within m x c e =
       let itself : Along s s i i m = record { same = λ a l. refl; stop = c } in
-      let from : beforeFeed hours j s (i + 0) ≡ At x = rw add-zero e in
-      go (before-along itself hours j 0 (omega arith)) from
+      let from : saidAt hours line s (i + 0) ≡ At x = rw add-zero e in
+      go (said-along itself hours line 0 (omega arith)) from
     where
       go : {a b : Next} → Moved i i m a b → a ≡ At x → (i ≤ x) × (x ≤ i + m)
       go (both d l) e = let same : i + d ≡ x = cc in (omega arith, omega arith)
@@ -109,42 +96,57 @@ module _ (hours j : ℕ) (s : List ℕ) (i : ℕ) where
   past-closes : closing (byteAt s (i + length s)) ≡ true
   past-closes = ap closing (List·getD-eq-default s 256 {n = i + length s} (omega arith))
 
-  pub line-ends : (k : ℕ) → headerLine hours j s i ≡ At k → LineEnds s i k
+  pub line-ends : (k : ℕ) → headerLine hours line s i ≡ At k → LineEnds s i k
+  unfolding headerLine
   line-ends k e =
-      let parts = sym (line-parts hours j s i) ∙ e in
-      let front = went (beforeFeed hours j s i) (lineFeed s) k parts in
+      let front = went (saidAt hours line s i) (lineFeed s) k e in
       let x = front .0 in
-      let end = feed-ends s x k (ap (λ (n : Next). andThen n (lineFeed s)) (sym (front .1)) ∙ parts) in
-      let back = before-within (length s) x past-closes (front .1) .0 in
+      let end = feed-ends s x k (ap (λ (n : Next). andThen n (lineFeed s)) (sym (front .1)) ∙ e) in
+      let back = said-within (length s) x past-closes (front .1) .0 in
       let here : i + (x - i) ≡ x = omega arith in
       record {
         long = x - i;
         next = rw here (end .1);
         feed = rw here (end .0);
-        first = λ m c. let u = before-within m x c (front .1) .1 in omega arith;
+        first = λ m c. let u = said-within m x c (front .1) .1 in omega arith;
       }
 
 -- ---- a header with each line as printed
-pub form-line : (hours : ℕ) (s : List ℕ) → headerForm hours s ≡ clear → (j : ℕ) → j < 11 → isAt (linePlace hours (suc j) s) ≡ true
-unfolding headerForm
-form-line hours s e j u = unless-clear (isAt (linePlace hours (suc j) s)) 1 (suc j) (first-clear (formAt hours s) 11 e j u)
+module _ (layout : List Line) (hours : ℕ) (s : List ℕ) (e : layoutForm layout hours s ≡ clear) where
+  pub form-line : (j : ℕ) → j < length layout → isPlaced layout hours s j ≡ true
+  unfolding layoutForm
+  form-line = none-refused (isPlaced layout hours s) FORM (length layout) e
+
+  pub form-start : (j : ℕ) → j ≤ length layout → linePlace layout hours j s ≡ At (startOf layout hours s j)
+  unfolding linePlace
+  form-start zero u = refl
+  form-start (suc j) u = is-at (linePlace layout hours (suc j) s) (form-line j (omega arith))
+
+  pub line-read : (j : ℕ) → j < length layout → headerLine hours (lineIn layout j) s (startOf layout hours s j) ≡ At (startOf layout hours s (suc j))
+  unfolding linePlace
+  line-read j u =
+      ap (λ (x : Next). andThen x (headerLine hours (lineIn layout j) s)) (sym (form-start j (omega arith))) ∙ form-start (suc j) (omega arith)
+
+  pub read-ends : (j : ℕ) → j < length layout → LineEnds s (startOf layout hours s j) (startOf layout hours s (suc j))
+  read-ends j u = line-ends hours (lineIn layout j) s (startOf layout hours s j) (startOf layout hours s (suc j)) (line-read j u)
 
 -- ---- a header without fault
-module _ (hours : ℕ) (s : List ℕ) (e : headerFault hours s ≡ clear) where
-  pub form-clear : headerForm hours s ≡ clear
-  form-clear = then-clear (headerForm hours s) (headerRange hours s) e .0
+pub form-clear : (layout : List Line) (hours : ℕ) (s : List ℕ) → layoutFault layout hours s ≡ clear → layoutForm layout hours s ≡ clear
+form-clear layout hours s e = then-clear (layoutForm layout hours s) (layoutRange layout hours s) e .0
 
-  pub clear-start : (j : ℕ) → j < 12 → linePlace hours j s ≡ At (startOf hours s j)
-  unfolding linePlace
-  clear-start zero u = refl
-  clear-start (suc j) u = is-at (linePlace hours (suc j) s) (form-line hours s form-clear j (omega arith))
+pub clear-next : (hours : ℕ) (s : List ℕ) → headerFault hours s ≡ clear → nextUnder (headerFault hours s) hours s ≡ startOf form1 hours s (length form1)
+clear-next hours s e = ap (λ (v : Verdict). nextUnder v hours s) e
 
-  pub clear-line : (j : ℕ) → j < 11 → headerLine hours j s (startOf hours s j) ≡ At (startOf hours s (suc j))
-  unfolding linePlace
-  clear-line j u = ap (λ (x : Next). andThen x (headerLine hours j s)) (sym (clear-start j (omega arith))) ∙ clear-start (suc j) (omega arith)
+-- ---- the place behind a line lies in the text, since the line ends in a line feed
+places-inside : (layout : List Line) (hours : ℕ) (s : List ℕ) (j : ℕ) → startOf layout hours s j ≤ length s
+unfolding linePlace headerLine
+places-inside layout hours s zero = omega arith
+places-inside layout hours s (suc j) = go (linePlace layout hours j s)
+  where
+    go : (x : Next) → placeIn (andThen x (headerLine hours (lineIn layout j) s)) ≤ length s
+    go (At i) = feed-inside s (saidAt hours (lineIn layout j) s i)
+    go Wrong = omega arith
 
-  pub clear-ends : (j : ℕ) → j < 11 → LineEnds s (startOf hours s j) (startOf hours s (suc j))
-  clear-ends j u = line-ends hours j s (startOf hours s j) (startOf hours s (suc j)) (clear-line j u)
-
-  pub clear-next : nextUnder (headerFault hours s) hours s ≡ startOf hours s 11
-  clear-next = ap (λ (v : Verdict). nextUnder v hours s) e
+pub next-inside : (v : Verdict) (hours : ℕ) (s : List ℕ) → nextUnder v hours s ≤ length s
+next-inside clear hours s = places-inside form1 hours s (length form1)
+next-inside (fault number place) hours s = omega arith

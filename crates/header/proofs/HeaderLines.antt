@@ -1,24 +1,30 @@
--- The lines of a header and their places, one by one as the code reads them.
+-- The lines of a header and their places, one by one as the code reads them. A layout is any list of lines.
 use mathlib.Core.Path.{_≡_, refl, sym, _∙_, ap}
-use mathlib.Core.Bool.{true, false≢true}
-use mathlib.Core.List.{List, append-nil}
+use mathlib.Core.Bool.{Bool, true, false, _&&_, false≢true}
+use mathlib.Core.List.{List, [], _∷_}
 use Prim.Native.Nat.{ℕ, zero, suc, _+_, _-_, _≤_, _<_}
 use native.Mathlib.Numerals.{add-one}
 use native.Mathlib.Nat.{add-zero, add-suc}
 use native.Mathlib.Omega.{arith}
-use borrow.Author.Tests.{lt-ltb, le-ltb, eq-eqb, ne-eqb}
-use lib.ListN.{getD, set, replicate}
+use borrow.Author.Tests.{ltb-true, eq-eqb, ne-eqb}
+use lib.IntN.{ℤ}
+use lib.ListN.{getD, set, replicate, length}
 use Rattle.exact.specs.Whole.{upTo}
-use Rattle.tariff.specs.Reply.{Verdict, clear, fault, unless}
-use Rattle.tariff.proofs.Checks.{clear-first, fault-first}
-use Rattle.text.specs.Text.{keyAt}
+use Rattle.exact.proofs.Tests.{and-left, and-right}
+use Rattle.tariff.specs.Reply.{FORM, RANGE, Verdict, clear, fault, unless, _then_, firstOf}
+use Rattle.tariff.proofs.Checks.{unless-clear, first-clear, clear-first, fault-first}
 use Rattle.text.specs.declared.Next.{Next}
 use Rattle.text.specs.declared.Next.the-variants.{At, Wrong}
-use Rattle.keys.specs.Keys.{keyOf}
-use Rattle.lines.specs.Line.{isAt, placeIn, andThen, lineFeed, lineAt, filled}
+use Rattle.text.specs.Text.{keyAt}
+use Rattle.keys.specs.Keys.{KEYS, keyOf}
+use Rattle.lines.specs.declared.Fields.{Fields}
+use Rattle.lines.specs.Line.{isAt, placeIn, andThen, filled, fieldsAt, lineFeed}
 use Rattle.lines.proofs.Fill.{filled-at, fill-next}
-use Rattle.header.specs.Header.{digitsAt, rowAt, headerLine, linePlace, headerForm, headerRange, headerFault, digitOn, marksOf}
-use Rattle.header.specs.Places.{Stands, Placed, refusedAt, PlacesRead, marksHeld}
+use Rattle.lines.proofs.Lines.{is-line, fields-read}
+use Rattle.header.specs.declared.layout.Line.{Line}
+use Rattle.header.specs.declared.layout.Line.the-variants.{Number, Row, Close}
+use Rattle.header.specs.Layout.{lineIn, digitsAt, rowAt, saidAt, headerLine, linePlace, lineInRange, layoutForm, layoutRange, layoutFault}
+use Rattle.header.specs.Places.{isKeyed, Stands, Placed, refusedAt}
 
 -- ---- a place that is found
 pub is-at : (x : Next) → isAt x ≡ true → x ≡ At (placeIn x)
@@ -34,105 +40,139 @@ pub is-at-then : (x : Next) (f : ℕ → Next) → isAt (andThen x f) ≡ true �
 is-at-then (At i) f e = e
 is-at-then Wrong f e = absurd (false≢true e)
 
--- ---- line j at a place
-module _ (hours j : ℕ) (s : List ℕ) (at : ℕ) {r : Next} where
-  pub number-line : j < 3 → lineAt (48 + j) 1 s at ≡ r → r ≡ headerLine hours j s at
-  unfolding headerLine
-  number-line u e = rw (lt-ltb j 3 u) (sym e)
+-- ---- a line at a place, by what it holds
+pub keyed-below : {line : Line} {key : ℕ} {least most : ℤ} → line ≡ Number key least most → isKeyed line ≡ true → key < KEYS
+keyed-below {key = key} is e = ltb-true key KEYS (ap isKeyed (sym is) ∙ e)
 
-  pub row-line : 3 ≤ j → j < 10 → {key digits : Next} → key ≡ keyAt (keyOf (48 + j)) s at → digits ≡ andThen key (digitsAt hours s) → r ≡ andThen digits (lineFeed s)
-      → r ≡ headerLine hours j s at
-  unfolding headerLine rowAt
-  row-line u v p q e =
-      rw (le-ltb j 3 u, lt-ltb j 10 v)
-      (e ∙ ap (λ (x : Next). andThen x (lineFeed s)) (q ∙ ap (λ (x : Next). andThen x (digitsAt hours s)) p))
+module _ (hours : ℕ) {line : Line} (s : List ℕ) (at : ℕ) where
+  pub number-line : {key : ℕ} {least most : ℤ} (fields : Fields) {r : Next} → line ≡ Number key least most → isKeyed line ≡ true
+      → fields ≡ fieldsAt key 1 s at → r ≡ andThen (fields .next) (lineFeed s) → r ≡ headerLine hours line s at
+  unfolding headerLine saidAt
+  number-line {key} fields is keyed f e =
+      let below = keyed-below is keyed in
+      let read = fields-read key 1 s at fields (is-line key 1 (omega arith) (omega arith)) f in
+      rw is (e ∙ ap (λ (x : Next). andThen x (lineFeed s)) (read .next))
 
-  pub last-line : 10 ≤ j → r ≡ lineFeed s at → r ≡ headerLine hours j s at
-  unfolding headerLine
-  last-line u e = rw (le-ltb j 3 (omega arith), le-ltb j 10 u) e
+  pub row-line : {key admitted : ℕ} {start digits r : Next} → line ≡ Row key admitted → start ≡ keyAt (keyOf key) s at
+      → digits ≡ andThen start (digitsAt hours s) → r ≡ andThen digits (lineFeed s) → r ≡ headerLine hours line s at
+  unfolding headerLine saidAt rowAt
+  row-line is p q e = rw is (e ∙ ap (λ (x : Next). andThen x (lineFeed s)) (q ∙ ap (λ (x : Next). andThen x (digitsAt hours s)) p))
+
+  -- the closing line is a line feed alone
+  pub close-line : line ≡ Close → headerLine hours line s at ≡ lineFeed s at
+  unfolding headerLine saidAt
+  close-line is = rw is
+
+-- ---- the first line, from 1, that fails a test, or 0
+module _ (test : ℕ → Bool) (number n : ℕ) where
+  abbrev pub refusal : ℕ → Verdict
+  refusal j = unless (test j) number (suc j)
+
+  pub none-refused : firstOf refusal n ≡ clear → (j : ℕ) → j < n → test j ≡ true
+  none-refused e j u = unless-clear (test j) number (suc j) (first-clear refusal n e j u)
+
+  module _ (j : ℕ) (before : (k : ℕ) → k < j → test k ≡ true) where
+    passed : (k : ℕ) → k < j → refusal k ≡ clear
+    passed k u = rw (before k u)
+
+    pub refused-first : j < n → test j ≡ false → refusedAt number (j + 1) ≡ firstOf refusal n
+    refused-first u e =
+        rw (ne-eqb (j + 1) 0 (λ z. omega arith), add-one j)
+        (sym (fault-first refusal n number (suc j) (record { at = j; below = u; before = passed; gives = rw e })))
+
+    pub refused-none : n ≤ j → clear ≡ firstOf refusal n
+    refused-none u = sym (clear-first refusal n (λ k v. passed k (omega arith)))
 
 -- ---- the places of the lines
-module _ (hours : ℕ) (s : List ℕ) where
-  abbrev pub formAt : ℕ → Verdict
-  formAt j = unless (isAt (linePlace hours (suc j) s)) 1 (suc j)
+module _ (layout : List Line) (hours : ℕ) (s : List ℕ) where
+  abbrev pub isPlaced : ℕ → Bool
+  isPlaced j = isAt (linePlace layout hours (suc j) s)
 
   abbrev pub startOf : ℕ → ℕ
-  startOf j = placeIn (linePlace hours j s)
+  startOf j = placeIn (linePlace layout hours j s)
+
+  abbrev pub isInRange : ℕ → Bool
+  isInRange j = lineInRange hours (lineIn layout j) s (linePlace layout hours j s)
 
   -- a line that has a place stands behind others that have one
-  pub place-before : (j d : ℕ) → isAt (linePlace hours (j + d) s) ≡ true → isAt (linePlace hours j s) ≡ true
+  pub place-before : (j d : ℕ) → isAt (linePlace layout hours (j + d) s) ≡ true → isAt (linePlace layout hours j s) ≡ true
   unfolding linePlace
   place-before j zero e = rw add-zero at e
-  place-before j (suc d) e = place-before j d (is-at-first (linePlace hours (j + d) s) _ (rw (add-suc j d) at e))
+  place-before j (suc d) e = place-before j d (is-at-first (linePlace layout hours (j + d) s) _ (rw (add-suc j d) at e))
 
-  -- j lines are read, up to the place i
-  pub record PlacedTo (at : List ℕ) (i j : ℕ) : Type 0 where
-    pub few : j ≤ 11
-    pub place : linePlace hours j s ≡ At i
-    pub places : at ≡ filled (j + 1) 12 startOf 0
+  -- j lines are read, up to the place i, into an array with room for so many places
+  pub record PlacedTo (room : ℕ) (at : List ℕ) (i j : ℕ) : Type 0 where
+    pub few : j ≤ length layout
+    pub place : linePlace layout hours j s ≡ At i
+    pub places : at ≡ filled (j + 1) room startOf 0
 
-  pub places-begin : PlacedTo (replicate 12 0) 0 0
+  pub places-begin : (room : ℕ) → PlacedTo (suc room) (replicate (suc room) 0) 0 0
   unfolding linePlace upTo
-  places-begin = record { few = omega arith; place = refl; places = refl }
+  places-begin room = let rest : suc room - 1 ≡ room = omega arith in record { few = omega arith; place = refl; places = rw rest }
 
-  module _ (at : List ℕ) (i j : ℕ) (o : PlacedTo at i j) where
-    line-next : linePlace hours (suc j) s ≡ headerLine hours j s i
-    unfolding linePlace
-    line-next = rw (o .place)
-
-    has-place : (k : ℕ) → k ≤ j → isAt (linePlace hours k s) ≡ true
+  module _ (room : ℕ) (wide : length layout < room) (at : List ℕ) (i j : ℕ) (o : PlacedTo room at i j) where
+    has-place : (k : ℕ) → k ≤ j → isAt (linePlace layout hours k s) ≡ true
     has-place k u = let e : k + (j - k) ≡ j = omega arith in place-before k (j - k) (rw (e, o .place))
 
-    lines-clear : (k : ℕ) → k < j → formAt k ≡ clear
-    lines-clear k u = rw (has-place (suc k) u)
+    -- the next line
+    module _ {line : Line} (is : line ≡ lineIn layout j) (u : j < length layout) where
+      line-next : linePlace layout hours (suc j) s ≡ headerLine hours line s i
+      unfolding linePlace
+      line-next = rw (o .place, is)
 
-    pub places-next : (next : ℕ) → j < 11 → headerLine hours j s i ≡ At next → PlacedTo (set at (j + 1) next) next (j + 1)
-    places-next next u e =
-        let here = line-next ∙ e in
-        record {
-          few = omega arith;
-          place = rw (add-one j) here;
-          places = fill-next startOf 0 (j + 1) 12 (omega arith) (o .places) (sym (ap (λ (k : ℕ). startOf k) (add-one j) ∙ ap placeIn here));
-        }
+      pub places-next : (next : ℕ) → headerLine hours line s i ≡ At next → PlacedTo room (set at (j + 1) next) next (j + 1)
+      places-next next e =
+          let here = line-next ∙ e in
+          record {
+            few = omega arith;
+            place = rw (add-one j) here;
+            places = fill-next startOf 0 (j + 1) room (omega arith) (o .places) (sym (ap (λ (k : ℕ). startOf k) (add-one j) ∙ ap placeIn here));
+          }
 
-    pub places-broken : j < 11 → headerLine hours j s i ≡ Wrong → PlacesRead hours s (record { broken = j + 1; at = at })
-    unfolding headerForm
-    places-broken u e =
-        record {
-          told =
-              rw (ne-eqb (j + 1) 0 (λ z. omega arith), add-one j)
-              (sym (fault-first formAt 11 1 (suc j) (record { at = j; below = u; before = lines-clear; gives = rw (line-next, e) })));
-          placed = λ z. absurd (omega arith);
-        }
+      pub line-broken : headerLine hours line s i ≡ Wrong → refusedAt FORM (j + 1) ≡ layoutForm layout hours s
+      unfolding layoutForm
+      line-broken e = refused-first isPlaced FORM (length layout) j (λ k l. has-place (suc k) l) u (ap isAt (line-next ∙ e))
 
-    pub places-end : 11 ≤ j → PlacesRead hours s (record { broken = 0; at = at })
-    unfolding headerForm
-    places-end u =
-        let all : j ≡ 11 = omega arith in
-        record {
-          told = sym (clear-first formAt 11 (λ k v. lines-clear k (omega arith)));
-          placed = λ z k v.
-              is-at (linePlace hours k s) (has-place k (omega arith))
-              ∙ ap At (filled-at startOf 0 (j + 1) 12 k (omega arith) ∙ ap (λ (l : List ℕ). getD l k 0) (sym (o .places)));
-        }
+    -- or none is left
+    module _ (all : length layout ≤ j) where
+      pub none-broken : clear ≡ layoutForm layout hours s
+      unfolding layoutForm
+      none-broken = refused-none isPlaced FORM (length layout) j (λ k l. has-place (suc k) l) all
 
--- a line among places that are told
-pub stands : (hours : ℕ) (s at : List ℕ) (j : ℕ) → Placed hours s at → j < 11 → Stands hours j s (getD at j 0)
-stands hours s at j p u = record { place = p j (omega arith); whole = ap isAt (p (suc j) (omega arith)) }
+      pub all-placed : Placed layout hours s at
+      all-placed k v =
+          is-at (linePlace layout hours k s) (has-place k (omega arith))
+          ∙ ap At (filled-at startOf 0 (j + 1) room k (omega arith) ∙ ap (λ (l : List ℕ). getD l k 0) (sym (o .places)))
+
+-- ---- each line's key is one of the table's
+abbrev pub areKeyed : List Line → Bool
+areKeyed [] = true
+areKeyed (line ∷ rest) = isKeyed line && areKeyed rest
+
+pub line-keyed : (layout : List Line) (j : ℕ) → areKeyed layout ≡ true → isKeyed (lineIn layout j) ≡ true
+line-keyed [] j e = refl
+line-keyed (line ∷ rest) zero e = and-left (isKeyed line) (areKeyed rest) e
+line-keyed (line ∷ rest) (suc j) e = line-keyed rest j (and-right (isKeyed line) (areKeyed rest) e)
+
+-- ---- a line among places that are told
+module _ (layout : List Line) (hours : ℕ) (s at : List ℕ) (p : Placed layout hours s at) (j : ℕ) {line : Line} (is : line ≡ lineIn layout j) where
+  pub stands : areKeyed layout ≡ true → j < length layout → Stands hours line s (getD at j 0)
+  unfolding linePlace
+  stands keyed u =
+      let read = ap (λ (x : Next). andThen x (headerLine hours (lineIn layout j) s)) (sym (p j (omega arith))) ∙ p (suc j) (omega arith) in
+      record { keyed = ap isKeyed is ∙ line-keyed layout j keyed; whole = rw is (ap isAt read) }
+
+  pub range-told : j < length layout → lineInRange hours line s (At (getD at j 0)) ≡ isInRange layout hours s j
+  range-told u = rw (is, p j (omega arith))
 
 -- ---- the header: its form first, then its ranges
-module _ (hours : ℕ) (s : List ℕ) (broken : ℕ) (form : refusedAt 1 broken ≡ headerForm hours s) where
-  pub form-refuses : (broken ≡ 0 → ⊥) → headerFault hours s ≡ fault 1 broken
+module _ (layout : List Line) (hours : ℕ) (s : List ℕ) (broken : ℕ) (form : refusedAt FORM broken ≡ layoutForm layout hours s) where
+  pub form-refuses : (broken ≡ 0 → ⊥) → layoutFault layout hours s ≡ fault FORM broken
   form-refuses u = rw (← form, ne-eqb broken 0 u)
 
-  module _ (whole : broken ≡ 0) (odd : ℕ) (range : refusedAt 2 odd ≡ headerRange hours s) where
-    pub range-refuses : (odd ≡ 0 → ⊥) → headerFault hours s ≡ fault 2 odd
+  module _ (whole : broken ≡ 0) (odd : ℕ) (range : refusedAt RANGE odd ≡ layoutRange layout hours s) where
+    pub range-refuses : (odd ≡ 0 → ⊥) → layoutFault layout hours s ≡ fault RANGE odd
     range-refuses u = rw (← form, eq-eqb broken 0 whole, ← range, ne-eqb odd 0 u)
 
-    pub none-refuses : odd ≡ 0 → headerFault hours s ≡ clear
+    pub none-refuses : odd ≡ 0 → layoutFault layout hours s ≡ clear
     none-refuses u = rw (← form, eq-eqb broken 0 whole, ← range, eq-eqb odd 0 u)
-
--- the room for 24 hours is full with 24
-pub marks-held : (s : List ℕ) → marksHeld 24 s ≡ marksOf 24 s
-unfolding marksHeld marksOf
-marks-held s = rw (append-nil (upTo (digitOn 24 3 s) 24))

@@ -4,7 +4,6 @@
 pub mod Digits
 pub mod HeaderLines
 pub mod Said
-pub mod HeaderRanges
 pub mod HeaderAlike
 pub mod HeaderLocal
 pub mod HeaderEnds

@@ -1,34 +1,34 @@
--- What the lines of a header say: the numbers of the first three, and the digits of the rows behind their keys.
+-- What the lines of a header say: the digits of a row, the ranges, and the marks behind their keys.
 use mathlib.Core.Path.{_≡_, refl, sym, _∙_, ap, fun-ext}
-use mathlib.Core.Bool.{true, false≢true}
-use mathlib.Core.List.{List}
+use mathlib.Core.Bool.{Bool, true, false≢true}
+use mathlib.Core.List.{List, append-nil}
 use Prim.Native.Nat.{ℕ, _+_, _≤_, _<_}
 use native.Mathlib.Omega.{arith}
-use borrow.Author.Tests.{lt-ltb, le-ltb}
-use lib.Dec.{lit<}
-use lib.ListN.{length}
+use borrow.Author.Tests.{leb-true}
+use lib.Dec.{leb, eqb, lit<}
+use lib.IntN.{ℤ}
+use lib.ListN.{getD, length}
 use Rattle.exact.specs.Choice.{if_then_else_}
 use Rattle.exact.proofs.Parts.{by-test}
-use Rattle.tariff.specs.Sheet.{allTo}
+use Rattle.tariff.specs.Sheet.{allTo, liesIn}
+use Rattle.tariff.specs.Eligible.{marked}
 use Rattle.text.specs.Text.{keyAt}
 use Rattle.text.specs.Number.{digitAt}
 use Rattle.text.specs.declared.Next.{Next}
 use Rattle.text.specs.declared.Next.the-variants.{At, Wrong}
 use Rattle.text.proofs.Numbers.{byte-inside}
 use Rattle.keys.specs.Keys.{keyOf}
-use Rattle.lines.specs.Line.{isAt, placeIn, andThen, valueIn, lineFeed}
+use Rattle.lines.specs.Line.{isAt, placeIn, andThen, lineFeed}
 use Rattle.lines.proofs.Ended.{feed-ends}
-use Rattle.header.specs.Header.{digitsAt, rowAt, headerLine, linePlace, numberFrom, numberOn, digitFrom, digitOn}
-use Rattle.header.specs.Places.{Stands}
+use Rattle.marks.specs.Word.{word}
+use Rattle.header.specs.declared.layout.Line.{Line}
+use Rattle.header.specs.declared.layout.Line.the-variants.{Number, Row}
+use Rattle.header.specs.Layout.{digitsAt, rowAt, saidAt, headerLine, linePlace, numberFrom, digitIn, digitFrom, lineInRange, lineOf, numberOn, digitOn}
+use Rattle.header.specs.Header.{form1, rowWord, marksOf}
+use Rattle.header.specs.Places.{Placed, marksHeld}
 use Rattle.header.proofs.HeaderLines.{is-at, is-at-first, is-at-then}
 use Rattle.header.proofs.Digits.{isDigit}
 
--- ---- a number
-pub number-on : (hours j : ℕ) (s : List ℕ) (at : ℕ) → linePlace hours j s ≡ At at → numberOn hours j s ≡ valueIn (48 + j) s at 0
-unfolding numberOn
-number-on hours j s at e = ap (numberFrom j s) e
-
--- ---- a row: its key, its digits and its end
 digits-place : (hours : ℕ) (s : List ℕ) (p : ℕ) → isAt (digitsAt hours s p) ≡ true → digitsAt hours s p ≡ At (p + hours)
 unfolding digitsAt
 digits-place hours s p =
@@ -40,37 +40,80 @@ digits-place hours s p =
 feed-inside : (s : List ℕ) (i : ℕ) → isAt (lineFeed s i) ≡ true → i < length s
 feed-inside s i e = byte-inside s i 10 (feed-ends s i _ (is-at (lineFeed s i) e) .0) (lit< tt)
 
-module _ (hours j : ℕ) (s : List ℕ) (at : ℕ) (o : Stands hours j s at) (u : 3 ≤ j) (v : j < 10) where
+-- a row that is as printed: its key, its digits and its end
+module _ (hours key admitted : ℕ) (s : List ℕ) (at : ℕ) (whole : isAt (headerLine hours (Row key admitted) s at) ≡ true) where
   abbrev pub rowKey : Next
-  rowKey = keyAt (keyOf (48 + j)) s at
+  rowKey = keyAt (keyOf key) s at
 
-  row-whole : isAt (andThen (andThen rowKey (digitsAt hours s)) (lineFeed s)) ≡ true
-  unfolding linePlace headerLine rowAt
-  row-whole = rw (o .place, le-ltb j 3 u, lt-ltb j 10 v) at (o .whole)
+  row-whole : isAt (andThen (rowAt hours key s at) (lineFeed s)) ≡ true
+  unfolding headerLine saidAt
+  row-whole = whole
 
   row-digits : isAt (andThen rowKey (digitsAt hours s)) ≡ true
-  row-digits = is-at-first (andThen rowKey (digitsAt hours s)) (lineFeed s) row-whole
+  unfolding rowAt
+  row-digits = is-at-first (rowAt hours key s at) (lineFeed s) row-whole
 
-  pub row-key : rowKey ≡ At (placeIn rowKey)
+  row-key : rowKey ≡ At (placeIn rowKey)
   row-key = is-at rowKey (is-at-first rowKey (digitsAt hours s) row-digits)
 
   -- the place after its digits
-  pub row-end : andThen rowKey (digitsAt hours s) ≡ At (placeIn rowKey + hours)
+  pub row-end : rowAt hours key s at ≡ At (placeIn rowKey + hours)
+  unfolding rowAt
   row-end =
       let digits = is-at-then rowKey (digitsAt hours s) row-digits in
       ap (λ (x : Next). andThen x (digitsAt hours s)) row-key ∙ digits-place hours s (placeIn rowKey) digits
 
-  pub row-inside : placeIn rowKey + hours < length s
-  row-inside = feed-inside s (placeIn rowKey + hours) (ap (λ (x : Next). isAt (andThen x (lineFeed s))) (sym row-end) ∙ row-whole)
+  pub digit-on : (h : ℕ) → digitFrom key s (At at) h ≡ digitAt s (placeIn rowKey + h)
+  digit-on h = ap (digitIn h s) row-key
 
-  pub digit-on : (h : ℕ) → digitOn hours j s h ≡ digitAt s (placeIn rowKey + h)
+  -- read from its first digit on
+  module _ (start : ℕ) (p : start ≡ placeIn rowKey) where
+    pub start-inside : start + hours ≤ length s
+    start-inside =
+        let inside = feed-inside s (placeIn rowKey + hours) (ap (λ (x : Next). isAt (andThen x (lineFeed s))) (sym row-end) ∙ row-whole) in
+        omega arith
+
+    pub digits-are : _≡_ {A = ℕ → ℕ} (λ h. digitAt s (start + h)) (digitFrom key s (At at))
+    digits-are = fun-ext (λ h. ap (λ (k : ℕ). digitAt s (k + h)) p ∙ sym (digit-on h))
+
+-- ---- a line's range, as the code tests it
+pub number-range : (hours : ℕ) {line : Line} (s : List ℕ) (at : ℕ) {key : ℕ} {least most low high z : ℤ} {r : Bool} → line ≡ Number key least most
+    → low ≡ least → high ≡ most → z ≡ numberFrom key s (At at) → r ≡ liesIn low high z → r ≡ lineInRange hours line s (At at)
+unfolding lineInRange
+number-range hours s at is l h n e = rw is (e ∙ (λ i. liesIn (l i) (h i) (n i)))
+
+module _ (hours : ℕ) {line : Line} (s : List ℕ) (at : ℕ) {key admitted : ℕ} (is : line ≡ Row key admitted)
+    (whole : isAt (headerLine hours line s at) ≡ true) (start : ℕ) (p : start ≡ placeIn (keyAt (keyOf key) s at)) where
+  row-printed : isAt (headerLine hours (Row key admitted) s at) ≡ true
+  row-printed = rw is at whole
+
+  pub row-inside : start + hours ≤ length s
+  row-inside = start-inside hours key admitted s at row-printed start p
+
+  pub row-range : {r : Bool} → r ≡ allTo (λ h. marked admitted (digitAt s (start + h))) hours → r ≡ lineInRange hours line s (At at)
+  unfolding lineInRange
+  row-range e = rw is (e ∙ ap (λ (f : ℕ → ℕ). allTo (λ h. marked admitted (f h)) hours) (digits-are hours key admitted s at row-printed start p))
+
+-- ---- the marks, each behind its key, whose line has a place that was told
+module _ (hours : ℕ) (s at : List ℕ) (p : Placed form1 hours s at) (key : ℕ) (u : leb (lineOf key form1) (length form1) ≡ true) where
+  abbrev pub toldAt : Next
+  toldAt = At (getD at (lineOf key form1) 0)
+
+  key-told : toldAt ≡ linePlace form1 hours (lineOf key form1) s
+  key-told = sym (p (lineOf key form1) (leb-true (lineOf key form1) (length form1) u))
+
+  pub number-told : numberFrom key s toldAt ≡ numberOn form1 hours key s
+  unfolding numberOn
+  number-told = ap (numberFrom key s) key-told
+
+  pub digits-told : digitFrom key s toldAt ≡ digitOn form1 hours key s
   unfolding digitOn
-  digit-on h = ap (λ (x : Next). digitFrom h s (andThen x (keyAt (keyOf (48 + j)) s))) (o .place) ∙ ap (digitFrom h s) row-key
+  digits-told = ap (digitFrom key s) key-told
 
--- a row that is read from its first digit on
-module _ (hours j : ℕ) (s : List ℕ) (at start : ℕ) (o : Stands hours j s at) (p : start ≡ placeIn (keyAt (keyOf (48 + j)) s at)) (u : 3 ≤ j) (v : j < 10) where
-  pub start-inside : start + hours ≤ length s
-  start-inside = let h = row-inside hours j s at o u v in omega arith
+  pub word-told : {r : ℕ} → r ≡ word hours (λ h. eqb (digitFrom key s toldAt h) 1) → r ≡ rowWord hours key s
+  unfolding rowWord
+  word-told e = e ∙ ap (λ (f : ℕ → ℕ). word hours (λ h. eqb (f h) 1)) digits-told
 
-  pub digits-are : _≡_ {A = ℕ → ℕ} (λ h. digitAt s (start + h)) (digitOn hours j s)
-  digits-are = fun-ext (λ h. ap (λ (k : ℕ). digitAt s (k + h)) p ∙ sym (digit-on hours j s at o u v h))
+-- the room for 24 hours is full with 24
+pub marks-held : (s : List ℕ) → marksHeld 24 s ≡ marksOf 24 s
+marks-held s = rw (append-nil (marksOf 24 s .cat))

@@ -1,22 +1,39 @@
 -- Headers and what they are read as: a good one, and one for each way to be refused, with its line.
 use mathlib.Core.Path.{_≡_, refl}
-use mathlib.Core.Bool.{true}
+use mathlib.Core.Bool.{true, false}
 use mathlib.Core.List.{List, [], _++_}
 use Prim.Native.Nat.{ℕ}
 use lib.ListN.{length, replicate}
 use Rattle.exact.specs.Whole.{upTo}
 use Rattle.tariff.specs.Sheet.{allTo}
+use Rattle.tariff.specs.Eligible.{marked}
 use Rattle.tariff.specs.Reply.{Verdict, clear, fault, firstOf}
 use Rattle.text.specs.Text.{bytes, keyAt}
 use Rattle.text.specs.Number.{digitAt, moreDigits, naturalAt, numberAt}
-use Rattle.lines.specs.Line.{valueAt, fieldAt, afterFields, valueIn, lineAt}
+use Rattle.keys.specs.Keys.{DA, X4-LINE}
+use Rattle.lines.specs.Line.{valueAt, fieldAt, afterFields, valueIn}
 use Rattle.marks.specs.Word.{word}
-use Rattle.header.specs.Header.{digitsAt, rowAt, headerLine, linePlace, numberOn, digitOn, headerForm, headerInRange, headerRange, headerFault, rowWord, marksOf, marksUnder, nextUnder}
+use Rattle.header.specs.declared.layout.Line.the-variants.{Row}
+use Rattle.header.specs.Layout.{lineIn, digitsAt, rowAt, saidAt, headerLine, linePlace, lineInRange, layoutForm, layoutRange, lineOf, numberOn, digitOn}
+use Rattle.header.specs.Header.{CATEGORIES, MARKS, form1, headerFault, rowWord, marksOf, marksUnder, nextUnder}
 
 -- what a proof by computation opens
 judged : List ℕ → Verdict
-unfolding headerForm headerRange headerInRange numberOn digitOn rowWord marksOf linePlace headerLine rowAt digitsAt lineAt valueIn afterFields fieldAt valueAt keyAt numberAt naturalAt moreDigits digitAt allTo firstOf upTo word
+unfolding layoutForm layoutRange lineInRange numberOn digitOn rowWord marksOf linePlace headerLine saidAt rowAt digitsAt valueIn afterFields fieldAt valueAt keyAt numberAt naturalAt moreDigits digitAt allTo firstOf upTo word
 judged s = headerFault 24 s
+
+-- ---- the layout: category 2 is none, and a key stands on its line; one that no line has, past the last
+category-three : marked CATEGORIES 3 ≡ true
+category-three = refl
+
+no-category-two : marked CATEGORIES 2 ≡ false
+no-category-two = refl
+
+fourth-exception : lineIn form1 (lineOf X4-LINE form1) ≡ Row X4-LINE MARKS
+fourth-exception = refl
+
+no-such-line : lineOf DA form1 ≡ length form1
+no-such-line = refl
 
 -- ---- the lines, one of them another
 abbrev none : List ℕ

@@ -1,105 +1,70 @@
--- A header is eleven lines: three numbers, seven rows of marks and the closing empty line. It knows FORM and RANGE only. `hours` is the
--- count of the day's hours, and of each row's digits.
-use mathlib.Core.Bool.{Bool, false, _||_}
-use mathlib.Core.List.{List}
-use Prim.Native.Nat.{ℕ, zero, suc, _+_}
-use lib.Dec.{ltb, leb, eqb}
+-- A header is eleven lines, a line per key: three numbers, seven rows of marks and the closing empty line. It knows FORM and RANGE only. `hours` is
+-- the count of the day's hours, and of each row's digits.
+use mathlib.Core.Bool.{false}
+use mathlib.Core.List.{List, [], _∷_}
+use Prim.Native.Nat.{ℕ}
+use lib.Dec.{eqb}
 use lib.IntN.{ℤ, pos}
-use lib.ListN.{replicate}
-use Rattle.exact.specs.Choice.{if_then_else_}
+use lib.ListN.{length, replicate}
 use Rattle.exact.specs.Whole.{eqZ, upTo}
 use Rattle.tariff.specs.declared.Marks.{Marks}
-use Rattle.tariff.specs.Sheet.{allTo}
-use Rattle.tariff.specs.Import.{isMark, isName}
-use Rattle.tariff.specs.Reply.{FORM, RANGE, Verdict, clear, fault, unless, _then_, firstOf}
-use Rattle.text.specs.declared.Next.{Next}
-use Rattle.text.specs.declared.Next.the-variants.{At, Wrong}
-use Rattle.text.specs.Text.{keyAt}
-use Rattle.text.specs.Number.{digitAt}
-use Rattle.keys.specs.Keys.{keyOf}
-use Rattle.lines.specs.Line.{isAt, placeIn, andThen, valueIn, lineFeed, lineAt}
+use Rattle.tariff.specs.Reply.{Verdict, clear, fault}
+use Rattle.keys.specs.Keys.{FORM-LINE, UNIT-LINE, RTC-LINE, CAT-LINE, X1-LINE, X2-LINE, X3-LINE, X4-LINE, X5-LINE, X6-LINE}
+use Rattle.lines.specs.Line.{placeIn}
 use Rattle.marks.specs.Word.{word}
+use Rattle.header.specs.declared.layout.Line.{Line}
+use Rattle.header.specs.declared.layout.Line.the-variants.{Number, Row, Close}
+use Rattle.header.specs.Layout.{admits, linePlace, layoutFault, numberOn, digitOn}
 
--- ---- the lines, from 0, whose keys are 48 to 57 of the table
+-- ---- the lines
 
--- the digits of a row of marks: exactly one for each hour, since what follows them is the line's end
-unfoldable pub digitsAt : (hours : ℕ) → List ℕ → ℕ → Next
-digitsAt hours s at = if allTo (λ h. ltb (digitAt s (at + h)) 10) hours then At (at + hours) else Wrong
+-- no category, and (i), (iii), (iv), (v) of 25.2.1
+abbrev pub CATEGORIES : ℕ
+CATEGORIES = admits (0 ∷ 1 ∷ 3 ∷ 4 ∷ 5 ∷ [])
 
-unfoldable pub rowAt : (hours k : ℕ) → List ℕ → ℕ → Next
-rowAt hours k s at = andThen (andThen (keyAt (keyOf k) s at) (digitsAt hours s)) (lineFeed s)
+-- not marked and marked
+abbrev pub MARKS : ℕ
+MARKS = admits (0 ∷ 1 ∷ [])
 
-unfoldable pub headerLine : (hours j : ℕ) → List ℕ → ℕ → Next
-headerLine hours j s at =
-    if ltb j 3
-    then lineAt (48 + j) 1 s at
-    else (if ltb j 10 then rowAt hours (48 + j) s at else lineFeed s at)
-
--- the place of line j; that of line 11 is the place behind the header
-unfoldable pub linePlace : (hours j : ℕ) → List ℕ → Next
-linePlace hours zero s = At 0
-linePlace hours (suc j) s = andThen (linePlace hours j s) (headerLine hours j s)
-
--- ---- what they say
-
-abbrev pub numberFrom : (j : ℕ) → List ℕ → Next → ℤ
-numberFrom j s (At at) = valueIn (48 + j) s at 0
-numberFrom j s Wrong = pos 0
-
--- the number of line j
-unfoldable pub numberOn : (hours j : ℕ) → List ℕ → ℤ
-numberOn hours j s = numberFrom j s (linePlace hours j s)
-
-abbrev pub digitFrom : (h : ℕ) → List ℕ → Next → ℕ
-digitFrom h s (At at) = digitAt s (at + h)
-digitFrom h s Wrong = 10
-
--- the digit of hour h in the row of line j: the first is hour 0's
-unfoldable pub digitOn : (hours j : ℕ) → List ℕ → ℕ → ℕ
-digitOn hours j s h = digitFrom h s (andThen (linePlace hours j s) (keyAt (keyOf (48 + j)) s))
+abbrev pub form1 : List Line
+form1 =
+    Number FORM-LINE (pos 1) (pos 1)
+    ∷ Number UNIT-LINE (pos 1) (pos 9999999)
+    ∷ Number RTC-LINE (pos 0) (pos 1)
+    ∷ Row CAT-LINE CATEGORIES
+    ∷ Row X1-LINE MARKS
+    ∷ Row X2-LINE MARKS
+    ∷ Row X3-LINE MARKS
+    ∷ Row X4-LINE MARKS
+    ∷ Row X5-LINE MARKS
+    ∷ Row X6-LINE MARKS
+    ∷ Close
+    ∷ []
 
 -- ---- the two checks
 
-unfoldable pub headerForm : ℕ → List ℕ → Verdict
-headerForm hours s = firstOf (λ j. unless (isAt (linePlace hours (suc j) s)) FORM (suc j)) 11
-
--- no category, and (i), (iii), (iv), (v) of 25.2.1
-abbrev pub isCategory : ℕ → Bool
-isCategory d = eqb d 0 || eqb d 1 || eqb d 3 || eqb d 4 || eqb d 5
-
-abbrev pub isBit : ℕ → Bool
-isBit d = leb d 1
-
--- `form`, `unit`, `rtc`, `cat`, and the rows `x1` to `x6`
-unfoldable pub headerInRange : (hours j : ℕ) → List ℕ → Bool
-headerInRange hours zero s = eqZ (numberOn hours 0 s) (pos 1)
-headerInRange hours (suc zero) s = isName (numberOn hours 1 s)
-headerInRange hours (suc (suc zero)) s = isMark (numberOn hours 2 s)
-headerInRange hours (suc (suc (suc zero))) s = allTo (λ h. isCategory (digitOn hours 3 s h)) hours
-headerInRange hours (suc (suc (suc (suc j)))) s = allTo (λ h. isBit (digitOn hours (4 + j) s h)) hours
-
-unfoldable pub headerRange : ℕ → List ℕ → Verdict
-headerRange hours s = firstOf (λ j. unless (headerInRange hours j s) RANGE (suc j)) 10
-
 abbrev pub headerFault : ℕ → List ℕ → Verdict
-headerFault hours s = headerForm hours s then headerRange hours s
+headerFault = layoutFault form1
 
--- ---- the marks, each row one word, `cat` apart
+-- ---- the unit, and the marks, each row one word, `cat` apart
 
-unfoldable pub rowWord : (hours j : ℕ) → List ℕ → ℕ
-rowWord hours j s = word hours (λ h. eqb (digitOn hours j s h) 1)
+abbrev pub unitOf : ℕ → List ℕ → ℤ
+unitOf hours s = numberOn form1 hours UNIT-LINE s
+
+unfoldable pub rowWord : (hours key : ℕ) → List ℕ → ℕ
+rowWord hours key s = word hours (λ h. eqb (digitOn form1 hours key s h) 1)
 
 unfoldable pub marksOf : ℕ → List ℕ → Marks
 marksOf hours s =
     record {
-      rtc = eqZ (numberOn hours 2 s) (pos 1);
-      cat = upTo (digitOn hours 3 s) hours;
-      x1 = rowWord hours 4 s;
-      x2 = rowWord hours 5 s;
-      x3 = rowWord hours 6 s;
-      x4 = rowWord hours 7 s;
-      x5 = rowWord hours 8 s;
-      x6 = rowWord hours 9 s;
+      rtc = eqZ (numberOn form1 hours RTC-LINE s) (pos 1);
+      cat = upTo (digitOn form1 hours CAT-LINE s) hours;
+      x1 = rowWord hours X1-LINE s;
+      x2 = rowWord hours X2-LINE s;
+      x3 = rowWord hours X3-LINE s;
+      x4 = rowWord hours X4-LINE s;
+      x5 = rowWord hours X5-LINE s;
+      x6 = rowWord hours X6-LINE s;
     }
 
 -- no hour has a category, so that none is eligible
@@ -112,5 +77,5 @@ marksUnder clear hours s = marksOf hours s
 marksUnder (fault number place) hours s = noMarks hours
 
 abbrev pub nextUnder : Verdict → ℕ → List ℕ → ℕ
-nextUnder clear hours s = placeIn (linePlace hours 11 s)
+nextUnder clear hours s = placeIn (linePlace form1 hours (length form1) s)
 nextUnder (fault number place) hours s = 0

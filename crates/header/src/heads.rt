@@ -1,48 +1,59 @@
-// The lines of a header, from 0: their places, their ranges and what they say.
+// The lines of a header: their places, their ranges and what they say.
 ghost use mathlib.Core.Path.{_≡_};
-ghost use Prim.Native.Nat.{_+_, _<_, _≤_};
+ghost use Prim.Native.Nat.{_<_, _≤_};
 ghost use lib.IntN.{pos};
+ghost use lib.Dec.{eqb};
+ghost use mathlib.Core.Bool.{true};
 ghost use Rattle.exact.specs.Whole.{eqZ};
 ghost use Rattle.tariff.specs.Reply.{RANGE};
 ghost use Rattle.text.specs.Text.{keyAt};
-ghost use Rattle.keys.specs.Keys.{keyOf};
-ghost use Rattle.lines.specs.Line.{placeIn, valueIn, filled};
-ghost use Rattle.header.specs.Header.{headerLine, headerInRange, headerRange, digitOn, rowWord};
-ghost use Rattle.header.specs.Places.{Stands, Placed, refusedAt, PlacesRead, numberFits, marksHeld};
+ghost use Rattle.text.specs.declared.Next.the-variants.{At};
+ghost use Rattle.keys.specs.Keys.{KEYS, CAT-LINE, keyOf};
+ghost use Rattle.lines.specs.Line.{placeIn, filled};
+ghost use Rattle.marks.specs.Word.{word};
+ghost use Rattle.header.specs.declared.layout.Line.the-variants.{Row};
+ghost use Rattle.header.specs.Layout.{headerLine, numberFrom, digitFrom, lineInRange, layoutRange};
+ghost use Rattle.header.specs.Header.{CATEGORIES, MARKS, form1};
+ghost use Rattle.header.specs.Places.{isKeyed, Stands, Placed, refusedAt, PlacesRead, marksHeld};
+use crate::layout;
+use crate::layout::Line;
 use crate::rows;
 use tariff::Marks;
 use text::Next;
 
-// The places of the eleven lines and of what stands behind them, or the first line, from 1, that is not as printed.
+// The places of the lines and of what stands behind them, or the first line, from 1, that is not as printed.
 pub struct Places {
     pub broken: usize,
-    pub at: [usize; 12],
+    pub at: [usize; layout::PLACES],
 }
 
-// The place behind line j.
-pub fn line_at(s: &[u8], at: usize, j: usize, hours: usize) -> Next
-    ensures { λ r. ⌜ r ≡ headerLine hours j (now (s .entry)) at ⌝ }
+// The place behind a line.
+pub fn line_at(s: &[u8], at: usize, line: Line, hours: usize) -> Next
+    requires { ⌜ isKeyed line ≡ true ⌝ }
+    ensures { λ r. ⌜ r ≡ headerLine hours line (now (s .entry)) at ⌝ }
 {
-    if j < 3 {
-        let fields = lines::fields_at(s, at, 48 + j, 1);
-        let next = fields.next;
-        return lines::line_end(s, next);
+    match line {
+        Line::Number(key, _, _) => {
+            let fields = lines::fields_at(s, at, key, 1);
+            let next = fields.next;
+            lines::line_end(s, next)
+        }
+        Line::Row(key, _) => lines::line_end(
+            s,
+            rows::digits_after(s, keys::key_number(s, at, key), hours),
+        ),
+        Line::Close => lines::line_end(s, Next::At(at)),
     }
-    if j < 10 {
-        let key = keys::key_number(s, at, 48 + j);
-        return lines::line_end(s, rows::digits_after(s, key, hours));
-    }
-    lines::line_end(s, Next::At(at))
 }
 
 pub fn places_of(s: &[u8], hours: usize) -> Places
     ensures { λ r. ⌜ PlacesRead hours (now (s .entry)) r ⌝ }
 {
-    let mut at = [0usize; 12];
+    let mut at = [0usize; layout::PLACES];
     let mut i: usize = 0;
     let mut j: usize = 0;
-    while j < 11 {
-        let Next::At(next) = line_at(s, i, j, hours) else {
+    while j < layout::LINES {
+        let Next::At(next) = line_at(s, i, layout::line_of(j), hours) else {
             return Places { broken: j + 1, at };
         };
         i = next;
@@ -52,25 +63,51 @@ pub fn places_of(s: &[u8], hours: usize) -> Places
     Places { broken: 0, at }
 }
 
-// The number on a line of one field.
-pub fn number_of(s: &[u8], at: usize, j: usize) -> i64
-    requires { ⌜ j < 3 ⌝ }
-    ensures { λ r. ⌜ r ≡ valueIn (48 + j) (now (s .entry)) at 0 ⌝ }
+// The number behind a key.
+pub fn number_of(s: &[u8], at: usize, key: usize) -> i64
+    requires { ⌜ key < KEYS ⌝ }
+    ensures { λ r. ⌜ r ≡ numberFrom key (now (s .entry)) (At at) ⌝ }
 {
-    let fields = lines::fields_at(s, at, 48 + j, 1);
+    let fields = lines::fields_at(s, at, key, 1);
     let values = fields.values;
     values[0]
 }
 
 // The place of a row's first digit.
-pub fn row_start(s: &[u8], at: usize, j: usize) -> usize
-    requires { ⌜ j < 10 ⌝ }
-    ensures { λ r. ⌜ r ≡ placeIn (keyAt (keyOf (48 + j)) (now (s .entry)) at) ⌝ }
+pub fn row_start(s: &[u8], at: usize, key: usize) -> usize
+    ensures { λ r. ⌜ r ≡ placeIn (keyAt (keyOf key) (now (s .entry)) at) ⌝ }
 {
-    match keys::key_number(s, at, 48 + j) {
+    match keys::key_number(s, at, key) {
         Next::At(start) => start,
         Next::Wrong => 0,
     }
+}
+
+// Whether what a line says is in its range.
+pub fn in_range(s: &[u8], at: usize, line: Line, hours: usize) -> bool
+    requires { ⌜ Stands hours line (now s) at ⌝ }
+    ensures { λ r. ⌜ r ≡ lineInRange hours line (now (s .entry)) (At at) ⌝ }
+{
+    match line {
+        Line::Number(key, least, most) => units::lies_in(number_of(s, at, key), least, most),
+        Line::Row(key, admitted) => rows::all_admitted(s, row_start(s, at, key), hours, admitted),
+        Line::Close => true,
+    }
+}
+
+// The first line, from 1, that is out of range, or 0.
+pub fn odd_line(s: &[u8], at: [usize; layout::PLACES], hours: usize) -> usize
+    requires { ⌜ Placed form1 hours (now s) at ⌝ }
+    ensures { λ r. ⌜ refusedAt RANGE r ≡ layoutRange form1 hours (now (s .entry)) ⌝ }
+{
+    let mut j: usize = 0;
+    while j < layout::LINES {
+        if !in_range(s, at[j], layout::line_of(j), hours) {
+            return j + 1;
+        }
+        j += 1;
+    }
+    0
 }
 
 pub fn is_one(x: i64) -> bool
@@ -79,75 +116,34 @@ pub fn is_one(x: i64) -> bool
     x == 1
 }
 
-// `form` is 1, `unit` a name, `rtc` a mark.
-pub fn number_fits(j: usize, x: i64) -> bool
-    ensures { λ r. ⌜ r ≡ numberFits j x ⌝ }
+// A row of marks as a word.
+pub fn row_word(s: &[u8], at: usize, key: usize, hours: usize) -> u32
+    requires { ⌜ Stands hours (Row key MARKS) (now s) at × (hours < 32) ⌝ }
+    ensures { λ r. ⌜ r ≡ word hours (λ h. eqb (digitFrom key (now (s .entry)) (At at) h) 1) ⌝ }
 {
-    match j {
-        0 => is_one(x),
-        1 => units::lies_in(x, 1, 9999999),
-        _ => units::lies_in(x, 0, 1),
-    }
-}
-
-// Whether line j is in its range. 59 admits the digits 0, 1, 3, 4 and 5, since category 2 is none, and 3 admits 0 and 1.
-pub fn in_range(s: &[u8], at: usize, j: usize, hours: usize) -> bool
-    requires { ⌜ Stands hours j (now s) at × (j < 10) ⌝ }
-    ensures { λ r. ⌜ r ≡ headerInRange hours j (now (s .entry)) ⌝ }
-{
-    if j < 3 {
-        return number_fits(j, number_of(s, at, j));
-    }
-    let start = row_start(s, at, j);
-    if j == 3 {
-        return rows::all_admitted(s, start, hours, 59);
-    }
-    rows::all_admitted(s, start, hours, 3)
-}
-
-// The first line, from 1, that is out of range, or 0.
-pub fn odd_line(s: &[u8], at: [usize; 12], hours: usize) -> usize
-    requires { ⌜ Placed hours (now s) at ⌝ }
-    ensures { λ r. ⌜ refusedAt RANGE r ≡ headerRange hours (now (s .entry)) ⌝ }
-{
-    let mut j: usize = 0;
-    while j < 10 {
-        if !in_range(s, at[j], j, hours) {
-            return j + 1;
-        }
-        j += 1;
-    }
-    0
-}
-
-// A row of `x1` to `x6` as a word.
-pub fn row_word(s: &[u8], at: usize, j: usize, hours: usize) -> u32
-    requires { ⌜ Stands hours j (now s) at × (3 ≤ j) × (j < 10) × (hours < 32) ⌝ }
-    ensures { λ r. ⌜ r ≡ rowWord hours j (now (s .entry)) ⌝ }
-{
-    rows::word_at(s, row_start(s, at, j), hours)
+    rows::word_at(s, row_start(s, at, key), hours)
 }
 
 // The row of `cat`.
 pub fn row_cat(s: &[u8], at: usize, hours: usize) -> [u8; 24]
-    requires { ⌜ Stands hours 3 (now s) at × (hours ≤ 24) ⌝ }
-    ensures { λ r. ⌜ r ≡ filled hours 24 (digitOn hours 3 (now (s .entry))) 0 ⌝ }
+    requires { ⌜ Stands hours (Row CAT-LINE CATEGORIES) (now s) at × (hours ≤ 24) ⌝ }
+    ensures { λ r. ⌜ r ≡ filled hours 24 (digitFrom CAT-LINE (now (s .entry)) (At at)) 0 ⌝ }
 {
-    rows::cat_at(s, row_start(s, at, 3), hours)
+    rows::cat_at(s, row_start(s, at, keys::CAT_LINE), hours)
 }
 
-pub fn marks_of(s: &[u8], at: [usize; 12], hours: usize) -> Marks
-    requires { ⌜ Placed hours (now s) at × (hours ≤ 24) ⌝ }
+pub fn marks_of(s: &[u8], at: [usize; layout::PLACES], hours: usize) -> Marks
+    requires { ⌜ Placed form1 hours (now s) at × (hours ≤ 24) ⌝ }
     ensures { λ r. ⌜ r ≡ marksHeld hours (now (s .entry)) ⌝ }
 {
     Marks {
-        rtc: is_one(number_of(s, at[2], 2)),
+        rtc: is_one(number_of(s, at[2], keys::RTC_LINE)),
         cat: row_cat(s, at[3], hours),
-        x1: row_word(s, at[4], 4, hours),
-        x2: row_word(s, at[5], 5, hours),
-        x3: row_word(s, at[6], 6, hours),
-        x4: row_word(s, at[7], 7, hours),
-        x5: row_word(s, at[8], 8, hours),
-        x6: row_word(s, at[9], 9, hours),
+        x1: row_word(s, at[4], keys::X1_LINE, hours),
+        x2: row_word(s, at[5], keys::X2_LINE, hours),
+        x3: row_word(s, at[6], keys::X3_LINE, hours),
+        x4: row_word(s, at[7], keys::X4_LINE, hours),
+        x5: row_word(s, at[8], keys::X5_LINE, hours),
+        x6: row_word(s, at[9], keys::X6_LINE, hours),
     }
 }

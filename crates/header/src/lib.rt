@@ -7,6 +7,7 @@ use tariff::Found;
 use tariff::Marks;
 
 mod heads;
+mod layout;
 mod rows;
 
 // What a header says: its fault or none, the day's marks, and the place behind it.
@@ -35,7 +36,7 @@ pub fn read_header(s: &[u8]) -> Header
     Header {
         found: Found::Nothing,
         marks: heads::marks_of(s, at, 24),
-        next: at[11],
+        next: at[layout::LINES],
     }
 }
 

@@ -1,6 +1,5 @@
 // Rows of marks, over the count of a day's hours: a day on which the clocks change has another count.
 ghost use mathlib.Core.Path.{_≡_};
-ghost use mathlib.Core.Bool.{false};
 ghost use Prim.Native.Nat.{_+_, _<_, _≤_};
 ghost use lib.Dec.{eqb};
 ghost use lib.ListN.{length};
@@ -9,7 +8,7 @@ ghost use Rattle.tariff.specs.Eligible.{marked};
 ghost use Rattle.text.specs.Number.{digitAt};
 ghost use Rattle.lines.specs.Line.{andThen, filled};
 ghost use Rattle.marks.specs.Word.{word};
-ghost use Rattle.header.specs.Header.{digitsAt};
+ghost use Rattle.header.specs.Layout.{digitsAt};
 use text::Next;
 
 // The place after a digit for each hour.
@@ -40,17 +39,15 @@ pub fn digits_after(s: &[u8], next: Next, hours: usize) -> Next
 
 // Whether each hour's digit is one of those that a word admits, digit d by bit d.
 pub fn all_admitted(s: &[u8], at: usize, hours: usize, admitted: u32) -> bool
-    requires { ⌜ marked admitted 10 ≡ false ⌝ }
+    requires { ⌜ at + hours ≤ length (now s) ⌝ }
     ensures { λ r. ⌜ r ≡ allTo (λ h. marked admitted (digitAt (now (s .entry)) (at + h))) hours ⌝ }
 {
-    let mut i = at;
     let mut h: usize = 0;
     while h < hours {
-        let digit = text::digit_at(s, i);
+        let digit = text::digit_at(s, at + h);
         if !marks::is_marked(admitted, digit as u32) {
             return false;
         }
-        i += 1;
         h += 1;
     }
     true

@@ -124,9 +124,9 @@ fn main() {
         say_usage();
         return;
     }
-    let mut text = [0u8; 16384];
+    let mut text = [0u8; lines::PIECE];
     let n = read_text(&mut text);
-    let mut row = [0u8; 2048];
-    let m = printed::hour_text(&text[..n], &mut row);
-    io::write_all(STDOUT_FILENO, &row[..m]);
+    let mut page = [0u8; printed::LONGEST];
+    let m = printed::hour_text(&text[..n], &mut page);
+    io::write_all(STDOUT_FILENO, &page[..m]);
 }

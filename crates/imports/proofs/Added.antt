@@ -6,78 +6,96 @@ use native.Mathlib.Numerals.{add-one}
 use native.Mathlib.Omega.{arith}
 use lib.IntN.{ℤ, pos, _+ℤ_}
 use lib.ListN.{length, drop}
-use Rattle.exact.specs.Whole.{Within}
+use Rattle.exact.specs.Whole.{Within, sumTo}
 use Rattle.exact.proofs.Range.{within-zero, within-add, within-more}
 use Rattle.tariff.specs.declared.Check.{Check}
 use Rattle.tariff.specs.declared.Worth.{Worth}
 use Rattle.tariff.specs.declared.Worth.the-variants as worth
 use Rattle.tariff.specs.declared.Grains.{Grains}
 use Rattle.tariff.specs.Units.{centsOf}
-use Rattle.tariff.specs.Reply.{numberOf, placeOf}
-use Rattle.tariff.specs.Import.{Part, part, stopped, sum, stoppedIn, partsTo, paid, refused, outside, inHour, settled, worthTold}
-use Rattle.tariff.proofs.Imports.{first-refused, paid-parts, part-within}
+use Rattle.tariff.specs.Reply.{ORDER, Finding, Verdict, clear, fault, numberOf, placeOf, firstOf}
+use Rattle.tariff.specs.Import.{Spot, outside, inHour, putIn, importDayFault, paid, refused, importReplyBy, worthBy, worthTold}
+use Rattle.tariff.proofs.Checks.{never-clear, first-clear, FirstFault, fault-first}
+use Rattle.tariff.proofs.ImportGrains.{part-within}
 use Rattle.lines.specs.Cut.{behind}
-use Rattle.lines.specs.Pieces.{restAfter, isSome}
+use Rattle.lines.specs.Pieces.{restAfter}
 use Rattle.lines.proofs.Pieces.{some-left, none-left}
-use Rattle.imports.specs.Import.{ImportBlock, broken, read, importBlockAt, partFrom, partAt}
-use Rattle.imports.specs.Read.{handedOn}
+use Rattle.imports.specs.Import.{ImportBlock, broken, read, importBlockAt, blockVerdict, blockPart, replyUnder}
+use Rattle.imports.specs.Read.{blockWorth, handedOn}
 
--- ---- the refusal of a block, handed on
+-- ---- what a block is worth
 
-pub refusal : (a : Worth) (check : Check) (k : ℕ) → a ≡ worth.Refused check → refused (numberOf check) (inHour k) (placeOf check) ≡ handedOn (worthTold a) k
-refusal a check k e = rw e
+worth-verdict : (v : Verdict) (part : ℤ) → worthBy v part .0 ≡ v
+worth-verdict clear part = refl
+worth-verdict (fault number place) part = refl
 
-pub no-refusal : (a : Worth) (g : Grains) (k : ℕ) → a ≡ worth.Part g → refused 1 (inHour k) 0 ≡ handedOn (worthTold a) k
-no-refusal a g k e = rw e
-
--- ---- a part keeps within its bound
-
-from-within : (b : ImportBlock) (cts : ℤ) (k : ℕ) (g : ℤ) → partFrom b cts k ≡ part g → Within 108000000000000000 g
-from-within (broken line) cts k g e = absurd (let z : _≡_ {A = ℕ} 0 1 = cc in omega arith)
-from-within (read h) cts k g e = part-within cts h k g e .0
+part-bound : (b : ImportBlock) (cts : ℤ) (k : ℕ) → blockVerdict b k ≡ clear → Within 108000000000000000 (blockPart cts b)
+part-bound (broken line) cts k e = absurd (never-clear e)
+part-bound (read h) cts k e = part-within cts h k e
 
 module _ (cts : ℤ) (s : List ℕ) (at : ℕ) where
-  abbrev parts : ℕ → Part
-  parts = partAt cts (drop at s)
+  abbrev block : ℕ → ImportBlock
+  block k = importBlockAt (restAfter k (drop at s)) 0
 
-  -- after k blocks: their sum, and the place behind them
+  abbrev each : ℕ → Finding Spot
+  each k = putIn (inHour k) (blockVerdict (block k) k)
+
+  -- after k blocks: none is refused, the sum of their parts, and the place behind them
   pub record Added (g : ℤ) (i k : ℕ) : Type 0 where
-    pub grains : partsTo parts k ≡ sum g
+    pub passed : firstOf each k ≡ clear
+    pub grains : g ≡ sumTo (λ j. blockPart cts (block j)) k
     pub within : Within (108000000000000000 * k) g
     pub rest : drop i s ≡ restAfter k (drop at s)
     pub inside : i ≤ length s
 
   pub none-added : at ≤ length s → Added (pos 0) at 0
-  unfolding partsTo restAfter
-  none-added h = record { grains = refl; within = within-zero 0; rest = refl; inside = h }
+  unfolding firstOf sumTo restAfter
+  none-added h = record { passed = refl; grains = refl; within = within-zero 0; rest = refl; inside = h }
 
-  module _ (g : ℤ) (i k : ℕ) (o : Added g i k) (p : Part) (e : p ≡ partFrom (importBlockAt (drop i s) 0) cts k) where
-    part-here : partAt cts (drop at s) k ≡ p
-    unfolding partAt
-    part-here = sym (e ∙ ap (λ (l : List ℕ). partFrom (importBlockAt l 0) cts k) (o .rest))
+  module _ (g : ℤ) (i k : ℕ) (o : Added g i k) (a : Worth) (e : worthTold a ≡ blockWorth cts (importBlockAt (drop i s) 0) k) where
+    here : worthTold a ≡ blockWorth cts (block k) k
+    here = e ∙ ap (λ (l : List ℕ). blockWorth cts (importBlockAt l 0) k) (o .rest)
 
-    pub here-within : (x : ℤ) → p ≡ part x → Within 108000000000000000 x
-    here-within x q = from-within (importBlockAt (drop i s) 0) cts k x (sym e ∙ q)
+    verdict-here : blockVerdict (block k) k ≡ worthTold a .0
+    verdict-here = sym (ap (λ (w : Verdict × ℤ). w .0) here ∙ worth-verdict (blockVerdict (block k) k) (blockPart cts (block k)))
 
-    pub one-added : (x : ℤ) (next : ℕ) → p ≡ part x → drop next s ≡ behind (drop i s) → next ≤ length s → Added (g +ℤ x) next (k + 1)
-    unfolding partsTo restAfter
-    one-added x next q r h =
-        record {
-          grains = rw (add-one k, o .grains, part-here, q);
-          within = within-more (omega arith) (within-add (o .within) (here-within x q));
-          rest = rw (add-one k) (r ∙ ap behind (o .rest));
-          inside = h;
-        }
+    module _ (x : Grains) (q : a ≡ worth.Part x) where
+      clear-here : blockVerdict (block k) k ≡ clear
+      clear-here = verdict-here ∙ ap (λ (w : Worth). worthTold w .0) q
+
+      part-here : x .0 ≡ blockPart cts (block k)
+      part-here = sym (ap (λ (w : Worth). worthTold w .1) q) ∙ ap (λ (w : Verdict × ℤ). w .1) here ∙ rw clear-here
+
+      pub here-within : Within 108000000000000000 (x .0)
+      here-within = rw part-here (part-bound (block k) cts k clear-here)
+
+      pub one-added : (next : ℕ) → drop next s ≡ behind (drop i s) → next ≤ length s → Added (g +ℤ x .0) next (k + 1)
+      unfolding firstOf sumTo restAfter
+      one-added next r h =
+          record {
+            passed = rw (add-one k, o .passed, clear-here);
+            grains = rw (add-one k, o .grains, part-here);
+            within = within-more (omega arith) (within-add (o .within) here-within);
+            rest = rw (add-one k) (r ∙ ap behind (o .rest));
+            inside = h;
+          }
 
     -- the first that is refused refuses the day, with its hour
-    pub one-refused : (hours number place : ℕ) → k < hours → p ≡ stopped number place → partsTo parts hours ≡ stoppedIn k number place
-    one-refused hours number place l q =
-        first-refused parts hours k number place .1 (record { below = l; before = paid-parts parts k g (o .grains) .1; refuses = part-here ∙ q })
+    pub one-refused : (name : ℤ) (hours : ℕ) (check : Check) → k < hours → a ≡ worth.Refused check
+        → handedOn (worthTold a .0) k ≡ replyUnder clear name cts hours (drop at s)
+    unfolding replyUnder importReplyBy importDayFault
+    one-refused name hours check l q =
+        let told = ap (λ (w : Worth). worthTold w .0) q in
+        let first : FirstFault each hours (numberOf check) (inHour k (placeOf check)) =
+        record { at = k; below = l; before = first-clear each k (o .passed); gives = rw (verdict-here, told) } in
+        rw (told, fault-first each hours (numberOf check) (inHour k (placeOf check)) first)
 
-  -- all blocks are worth a part: bytes that follow them are a surplus, and else the day is paid
+  -- none is refused: bytes that follow them are a surplus, and else the day is paid
   module _ (g : ℤ) (i hours : ℕ) (o : Added g i hours) (name : ℤ) where
-    pub all-surplus : i < length s → refused 3 outside 0 ≡ settled name (isSome (restAfter hours (drop at s))) (partsTo parts hours)
-    all-surplus h = rw (← o .rest, some-left s i h, o .grains)
+    pub all-surplus : i < length s → refused ORDER (outside 0) ≡ replyUnder clear name cts hours (drop at s)
+    unfolding replyUnder importReplyBy importDayFault
+    all-surplus h = rw (← o .rest, some-left s i h, o .passed)
 
-    pub all-paid : (c : ℤ) → length s ≤ i → c ≡ centsOf g → paid name g c ≡ settled name (isSome (restAfter hours (drop at s))) (partsTo parts hours)
-    all-paid c h e = rw (← o .rest, none-left s i h, o .grains, e)
+    pub all-paid : (c : ℤ) → length s ≤ i → c ≡ centsOf g → paid name g c ≡ replyUnder clear name cts hours (drop at s)
+    unfolding replyUnder importReplyBy importDayFault
+    all-paid c h e = rw (← o .rest, none-left s i h, o .passed, e, o .grains)

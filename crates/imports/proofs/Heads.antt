@@ -10,14 +10,14 @@ use Rattle.tariff.specs.declared.Check.{Check}
 use Rattle.tariff.specs.declared.Check.the-variants.{Form, Range}
 use Rattle.tariff.specs.declared.Found.the-variants.{Nothing}
 use Rattle.tariff.specs.Reply.{clear, fault, numberOf, placeOf}
-use Rattle.tariff.specs.Import.{isMark, isName, partsTo, ImportReply, refused, outside, settled}
+use Rattle.tariff.specs.Import.{outside, importDayFault, ImportReply, refused, importReplyBy}
+use Rattle.tariff.specs.Sheet.{isMark, isName}
 use Rattle.tariff.proofs.Demands.{one-finding}
 use Rattle.text.specs.declared.Next.the-variants.{At, Wrong}
 use Rattle.lines.specs.Line.{placeIn, lineFeed}
-use Rattle.lines.specs.Pieces.{restAfter, isSome}
 use Rattle.lines.proofs.Ended.{feed-inside}
 use Rattle.imports.specs.declared.head.Head.{Head}
-use Rattle.imports.specs.Import.{headLine, headPlace, nameIn, ctsIn, headFault, partAt, importReply}
+use Rattle.imports.specs.Import.{headLine, headPlace, nameIn, ctsIn, headFault, replyUnder, importReply}
 use Rattle.imports.specs.Read.{HeadRead, refusedHead}
 
 module _ (s : List ℕ) where
@@ -82,11 +82,11 @@ head-inside s = feed-inside s (headLine s)
 -- ---- the reply under them
 
 module _ (hours : ℕ) (s : List ℕ) where
-  pub head-refuses : (number place : ℕ) → headFault s ≡ fault number place → refused number outside place ≡ importReply hours s
-  unfolding importReply
+  pub head-refuses : (number place : ℕ) → headFault s ≡ fault number place → refused number (outside place) ≡ importReply hours s
+  unfolding importReply replyUnder importReplyBy importDayFault
   head-refuses number place e = rw e
 
   pub head-passes : (name cts : ℤ) (next : ℕ) (r : ImportReply) → headFault s ≡ clear → name ≡ nameIn s → cts ≡ ctsIn s → next ≡ placeIn (headPlace s)
-      → r ≡ settled name (isSome (restAfter hours (drop next s))) (partsTo (partAt cts (drop next s)) hours) → r ≡ importReply hours s
+      → r ≡ replyUnder clear name cts hours (drop next s) → r ≡ importReply hours s
   unfolding importReply
   head-passes name cts next r e a b p q = q ∙ rw (e, a, b, p)

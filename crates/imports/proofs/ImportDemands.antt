@@ -1,28 +1,34 @@
 -- The theorems of an import's text: what does not count, what refuses the day and where, what it pays, which bytes are read, and bounded memory.
-use mathlib.Core.Path.{_≡_}
+use mathlib.Core.Path.{_≡_, refl, sym, ap, _∙_}
 use mathlib.Core.Bool.{true, false, _&&_}
 use mathlib.Core.List.{List, [], _∷_, _++_}
-use mathlib.Core.Logic.{_↔_}
+use mathlib.Core.Logic.{_↔_, Iff·trans}
 use Prim.Native.Nat.{ℕ, suc, _<_, _≤_}
+use native.Mathlib.Omega.{arith}
 use lib.IntN.{ℤ, pos}
 use lib.Signed.{_≤ℤ_}
 use lib.ListN.{take}
 use Rattle.exact.specs.Whole.{eqZ}
-use Rattle.tariff.specs.Reply.{FORM, RANGE, ORDER, clear, fault}
-use Rattle.tariff.specs.Import.{isMark, isName, Where, outside, inHour, paid, refused}
+use Rattle.exact.proofs.Sums.{sum-zeros}
+use Rattle.tariff.specs.Units.{centsOf}
+use Rattle.tariff.specs.Reply.{FORM, RANGE, ORDER, Verdict, clear, fault, _then_}
+use Rattle.tariff.specs.Import.{Spot, outside, inHour, paid, refused}
+use Rattle.tariff.specs.Sheet.{isMark, isName}
 use Rattle.tariff.specs.ImportDemand.{FirstRefused}
-use Rattle.lines.specs.Line.{isAt}
-use Rattle.lines.specs.Pieces.{firstPiece, piece}
+use Rattle.tariff.proofs.Checks.{then-first, then-second, unless-clear}
+use Rattle.tariff.proofs.Imports.{unrefused, first-refused, head-refused, surplus-refused}
+use Rattle.lines.specs.Line.{isAt, lineFeed}
+use Rattle.lines.specs.Pieces.{PIECE, restAfter, firstPiece, piece}
 use Rattle.intake.specs.Intake.{keptOf, atFirst}
 use Rattle.imports.specs.Import.{headLine, headPlace, nameIn, ctsIn, headFault, importBody, importBlockAt, importReply}
-use Rattle.imports.specs.Demand.{blockIn, partIn, surplusIn, FirstBroken, Surplus, PaidBy, SameHead, BlocksApart}
-use Rattle.imports.proofs.Closing.{piece-decides, closed-or-ended}
-use Rattle.imports.proofs.Local.{decided}
-use Rattle.imports.proofs.Forms.{head-form1, head-form2, head-range1}
-use Rattle.imports.proofs.Uncounted.{replies-alike}
-use Rattle.imports.proofs.Replies.{head-exactly, refused-exactly, form-exactly, surplus-exactly, paid-exactly, same-refusal}
-use Rattle.imports.proofs.KeptImport.{import-settled}
-use Rattle.imports.proofs.Payments.{paid-least, cts-nothing, cts-checks}
+use Rattle.imports.specs.Demand.{blockIn, faultIn, partIn, surplusIn, FirstBroken, Surplus, PaidBy, SameHead, ImportBlocksApart}
+use Rattle.imports.proofs.Closing.{decided, piece-decides, closed-or-ended}
+use Rattle.imports.proofs.Forms.{block-form, line1, line2, ranges, head-order, from-line1, from-line2, from-ranges, second-first}
+use Rattle.imports.proofs.Uncounted.{blocks-alike}
+use Rattle.imports.proofs.Heads.{head-refuses}
+use Rattle.imports.proofs.Replies.{refused-by, paid-by, same-body, same-piece, replies-alike}
+use Rattle.imports.proofs.KeptImport.{got, kept-head, kept-blocks, kept-surplus}
+use Rattle.imports.proofs.Payments.{sum-least, cents-least, block-least, block-nothing}
 
 -- ---- which intervals count
 
@@ -31,68 +37,121 @@ use Rattle.imports.proofs.Payments.{paid-least, cts-nothing, cts-checks
 pub uncounted-changes-no-reply :
     (hours : ℕ) (s t : List ℕ)
     → SameHead s t
-    → ((k : ℕ) → k < hours → BlocksApart (ctsIn s) (blockIn s k) (blockIn t k))
+    → ((k : ℕ) → k < hours → ImportBlocksApart (ctsIn s) (blockIn s k) (blockIn t k))
     → surplusIn hours s ≡ surplusIn hours t
     → importReply hours s ≡ importReply hours t
-uncounted-changes-no-reply = replies-alike
+uncounted-changes-no-reply hours s t o blocks e = replies-alike hours s t o each e
+  where
+    each : (k : ℕ) → k < hours → (faultIn s k ≡ faultIn t k) × (partIn s k ≡ partIn t k)
+    each k u = rw (← o .cts) (blocks-alike (ctsIn s) (blockIn s k) (blockIn t k) k (blocks k u))
 
 -- ---- what refuses the day
 
 -- Where the first two lines are not refused, the first refused block refuses the day, with its hour; and only it does so with an hour.
 pub refused-by-the-first-block :
     (hours : ℕ) (s : List ℕ) (number hour place : ℕ)
-    → (importReply hours s ≡ refused number (inHour hour) place) ↔ ((headFault s ≡ clear) × FirstRefused (partIn s) hours hour number place)
-refused-by-the-first-block = refused-exactly
+    → (importReply hours s ≡ refused number (inHour hour place)) ↔ ((headFault s ≡ clear) × FirstRefused (faultIn s) hours hour number place)
+refused-by-the-first-block hours s number hour place =
+    Iff·trans (refused-by hours s number (inHour hour place)) (first-refused (headFault s) (faultIn s) hours (surplusIn hours s) number hour place)
 
--- It does so whatever follows it: a text whose first two lines have the same fault or none and the same `cts`, and whose blocks are the
--- same up to that one, is refused alike.
+-- It does so whatever follows it: a text whose first two lines have the same fault or none, and whose blocks are the same up to that one, is
+-- refused alike.
 pub whatever-follows :
     (hours : ℕ) (s t : List ℕ) (number hour place : ℕ)
     → headFault s ≡ headFault t
-    → ctsIn s ≡ ctsIn t
     → ((j : ℕ) → j ≤ hour → piece j (importBody s) ≡ piece j (importBody t))
-    → importReply hours s ≡ refused number (inHour hour) place
-    → importReply hours t ≡ refused number (inHour hour) place
-whatever-follows = same-refusal
+    → importReply hours s ≡ refused number (inHour hour place)
+    → importReply hours t ≡ refused number (inHour hour place)
+whatever-follows hours s t number hour place h same e =
+    let p = refused-by-the-first-block hours s number hour place .0 e in
+    let f = p .1 in
+    refused-by-the-first-block hours t number hour place .1 (
+      sym h ∙ p .0,
+      record { below = f .below; before = λ j u. sym (blocks j (omega arith)) ∙ f .before j u; refuses = sym (blocks hour (omega arith)) ∙ f .refuses },
+    )
+  where
+    blocks : (j : ℕ) → j ≤ hour → faultIn s j ≡ faultIn t j
+    blocks j u = same-piece (importBody s) (importBody t) j (same j u)
 
 -- FORM is given with an hour exactly when a line of its block is not as printed, at the first such line, and neither the first two lines
 -- nor a block before it is refused.
 pub form-exactly-when-broken :
     (hours : ℕ) (s : List ℕ) (hour line : ℕ)
-    → (importReply hours s ≡ refused FORM (inHour hour) line) ↔ FirstBroken hours s hour line
-form-exactly-when-broken = form-exactly
+    → (importReply hours s ≡ refused FORM (inHour hour line)) ↔ FirstBroken hours s hour line
+form-exactly-when-broken hours s hour line =
+    let it = refused-by-the-first-block hours s FORM hour line in
+    let form = block-form (restAfter hour (importBody s)) hour line in (
+      λ e. let p = it .0 e in record { head = p .0; below = p .1 .below; before = p .1 .before; breaks = form .0 (p .1 .refuses) },
+      λ b. it .1 (b .head, record { below = b .below; before = b .before; refuses = form .1 (b .breaks) }),
+    )
 
 -- A refusal without an hour, unless it is ORDER, is that of the first two lines; and theirs refuses the day.
 pub refused-by-the-head :
     (hours : ℕ) (s : List ℕ) (number place : ℕ)
     → (number ≡ ORDER → ⊥)
-    → (importReply hours s ≡ refused number outside place) ↔ (headFault s ≡ fault number place)
-refused-by-the-head = head-exactly
+    → (importReply hours s ≡ refused number (outside place)) ↔ (headFault s ≡ fault number place)
+refused-by-the-head hours s number place never =
+    Iff·trans (refused-by hours s number (outside place)) (head-refused (headFault s) (faultIn s) hours (surplusIn hours s) number place never)
 
 -- Theirs is FORM at 1 exactly when line 1 is not as printed; FORM at 2 exactly when line 1 is and no empty line stands behind it; and RANGE
 -- at 1 exactly when both are as printed and `import` or `cts` is outside its range.
 pub head-form-at-1 : (s : List ℕ) → (headFault s ≡ fault FORM 1) ↔ (isAt (headLine s) ≡ false)
-head-form-at-1 = head-form1
+unfolding headFault
+head-form-at-1 s = (λ e. from-line1 s (then-first (line1 s) (line2 s then ranges s) FORM 1 later e) .0, λ e. rw e)
+  where
+    later : (line2 s then ranges s) ≡ fault FORM 1 → ⊥
+    later e =
+        let p = then-second (line2 s) (ranges s) FORM 1 (λ f. let w = from-line2 s f .2 in omega arith) e in
+        let w = from-ranges s (p .1) .1 in
+        omega arith
 
 pub head-form-at-2 : (s : List ℕ) → (headFault s ≡ fault FORM 2) ↔ ((isAt (headLine s) ≡ true) × (isAt (headPlace s) ≡ false))
-head-form-at-2 = head-form2
+unfolding headFault
+head-form-at-2 s = (
+  λ e.
+      let p = then-second (line1 s) (line2 s then ranges s) FORM 2 (λ f. let w = from-line1 s f .2 in omega arith) e in
+      let q = then-first (line2 s) (ranges s) FORM 2 (λ f. let w = from-ranges s f .1 in omega arith) (p .1) in
+      (unless-clear (isAt (headLine s)) FORM 1 (p .0), from-line2 s q .0),
+  λ p. rw (p .0, p .1),
+)
 
 pub head-range-at-1 : (s : List ℕ) → (headFault s ≡ fault RANGE 1) ↔ ((isAt (headPlace s) ≡ true) × ((isName (nameIn s) && isMark (ctsIn s)) ≡ false))
-head-range-at-1 = head-range1
+unfolding headFault headPlace
+head-range-at-1 s = (
+  λ e.
+      let p = then-second (line1 s) (line2 s then ranges s) RANGE 1 (λ f. let w = from-line1 s f .1 in omega arith) e in
+      let q = then-second (line2 s) (ranges s) RANGE 1 (λ f. let w = from-line2 s f .1 in omega arith) (p .1) in
+      (unless-clear (isAt (headPlace s)) FORM 2 (q .0), from-ranges s (q .1) .0),
+  λ p. rw (second-first (headLine s) (lineFeed s) (p .0), p .0, p .1),
+)
 
 -- ORDER without an hour, at 0, is given exactly when neither the first two lines nor a block is refused and bytes follow the last block.
-pub surplus-exactly-when-bytes-follow : (hours : ℕ) (s : List ℕ) → (importReply hours s ≡ refused ORDER outside 0) ↔ Surplus hours s
-surplus-exactly-when-bytes-follow = surplus-exactly
+pub surplus-exactly-when-bytes-follow : (hours : ℕ) (s : List ℕ) → (importReply hours s ≡ refused ORDER (outside 0)) ↔ Surplus hours s
+surplus-exactly-when-bytes-follow hours s =
+    let it = Iff·trans (refused-by hours s ORDER (outside 0)) (surplus-refused (headFault s) (faultIn s) hours (surplusIn hours s) (head-order s)) in (
+      λ e. let p = it .0 e in record { head = p .0; blocks = p .1; follow = p .2 },
+      λ o. it .1 (o .head, o .blocks, o .follow),
+    )
 
 -- ---- what the day pays
 
 -- It is paid exactly when nothing refuses it: to the import that line 1 names, the sum of its blocks' parts, which becomes cents once.
 pub paid-exactly-when-unrefused : (hours : ℕ) (s : List ℕ) (name g c : ℤ) → (importReply hours s ≡ paid name g c) ↔ PaidBy hours s name g c
-paid-exactly-when-unrefused = paid-exactly
+paid-exactly-when-unrefused hours s name g c =
+    let it = paid-by hours s name g c in
+    let day = unrefused (headFault s) (faultIn s) hours (surplusIn hours s) in (
+      λ e.
+          let p = it .0 e in
+          let d = day .0 (p .0) in
+          record { head = d .0; blocks = d .1; ends = d .2; name = p .1; grains = p .2; cents = p .3 },
+      λ o. it .1 (day .1 (o .head, o .blocks, o .ends), o .name, o .grains, o .cents),
+    )
 
 -- Neither its sum nor its payment is negative.
 pub never-negative : (hours : ℕ) (s : List ℕ) (name g c : ℤ) → importReply hours s ≡ paid name g c → (pos 0 ≤ℤ g) × (pos 0 ≤ℤ c)
-never-negative = paid-least
+never-negative hours s name g c e =
+    let o = paid-exactly-when-unrefused hours s name g c .0 e in
+    (rw (o .grains) (sum-least (partIn s) hours (λ k u. block-least (ctsIn s) (blockIn s k))), rw (o .cents) (cents-least g))
 
 -- A CTS import that is not refused is paid 0.
 pub cts-pays-nothing :
@@ -100,7 +159,11 @@ pub cts-pays-nothing :
     → eqZ (ctsIn s) (pos 0) ≡ false
     → importReply hours s ≡ paid name g c
     → (g ≡ pos 0) × (c ≡ pos 0)
-cts-pays-nothing = cts-nothing
+unfolding centsOf
+cts-pays-nothing hours s name g c n e =
+    let o = paid-exactly-when-unrefused hours s name g c .0 e in
+    let none : g ≡ pos 0 = o .grains ∙ sum-zeros (partIn s) hours (λ k u. block-nothing (ctsIn s) (blockIn s k) n) in
+    (none, o .cents ∙ ap centsOf none)
 
 -- And it goes through every check: of two texts that differ in their first two lines only, and are not refused for these, one is refused as
 -- the other is.
@@ -109,10 +172,11 @@ pub cts-asks-every-check :
     → headFault s ≡ clear
     → headFault t ≡ clear
     → importBody s ≡ importBody t
-    → (number : ℕ) (w : Where) (place : ℕ)
-    → importReply hours s ≡ refused number w place
-    → importReply hours t ≡ refused number w place
-cts-asks-every-check = cts-checks
+    → (number : ℕ) (spot : Spot)
+    → importReply hours s ≡ refused number spot
+    → importReply hours t ≡ refused number spot
+cts-asks-every-check hours s t hs ht body number spot e =
+    refused-by hours t number spot .1 (sym (same-body hours s t (hs ∙ sym ht) body) ∙ refused-by hours s number spot .0 e)
 
 -- ---- which bytes are read
 
@@ -125,7 +189,7 @@ pub the-end-closes : (front behind : List ℕ) → importBlockAt (front ++ (10 �
 the-end-closes = closed-or-ended
 
 -- A block is decided by its first 16,384 bytes: a program that reads no more of a block of any length has its exact answer.
-pub first-bytes-decide : (s : List ℕ) → importBlockAt (take 16384 s) 0 ≡ importBlockAt s 0
+pub first-bytes-decide : (s : List ℕ) → importBlockAt (take PIECE s) 0 ≡ importBlockAt s 0
 first-bytes-decide = decided
 
 -- ---- bounded memory
@@ -133,4 +197,9 @@ first-bytes-decide = decided
 -- An import is settled alike from what is kept of its text, of any length: the first two lines and each block up to its first 16,384 bytes
 -- and its empty line, and a byte of what follows.
 pub a-kept-import-is-settled-alike : (hours : ℕ) (s : List ℕ) → importReply hours (keptOf (atFirst (suc hours)) s) ≡ importReply hours s
-a-kept-import-is-settled-alike = import-settled
+a-kept-import-is-settled-alike hours s = go (headFault s) refl
+  where
+    go : (v : Verdict) → headFault s ≡ v → importReply hours (got hours s) ≡ importReply hours s
+    go clear e = replies-alike hours (got hours s) s (kept-head hours s) (kept-blocks hours s e) (kept-surplus hours s e)
+    go (fault number place) e =
+        sym (head-refuses hours (got hours s) number place (kept-head hours s .fault ∙ e)) ∙ head-refuses hours s number place e

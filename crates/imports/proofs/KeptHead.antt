@@ -6,21 +6,21 @@ use Prim.Native.Nat.{ℕ, _<_, _≤_}
 use native.Mathlib.Omega.{arith}
 use lib.ListN.{take, drop}
 use lib.Seq.{getD-take}
-use Rattle.tariff.specs.Reply.{clear, unless, _then_}
-use Rattle.tariff.specs.Import.{isMark, isName}
+use Rattle.tariff.specs.Reply.{FORM, RANGE, Verdict, clear, unless, _then_}
+use Rattle.tariff.specs.Sheet.{isMark, isName}
 use Rattle.tariff.proofs.Checks.{then-clear, unless-clear}
 use Rattle.text.specs.Text.{byteAt, keyAt}
 use Rattle.text.specs.declared.Next.{Next}
 use Rattle.text.specs.declared.Next.the-variants.{At, Wrong}
-use Rattle.lines.specs.Line.{isAt, placeIn, andThen, lineFeed, lineAt}
+use Rattle.keys.specs.Keys.{IMPORT}
+use Rattle.lines.specs.Line.{isAt, placeIn, andThen, lineFeed}
 use Rattle.lines.specs.Cut.{emptyIn, behind}
-use Rattle.lines.specs.Pieces.{upToPlace, firstPiece}
-use Rattle.lines.proofs.Along.{closing, Along, went, unmoved, moved-then, fields-along, values-along}
-use Rattle.lines.proofs.Ended.{feed-along}
+use Rattle.lines.specs.Pieces.{PIECE, upToPlace, firstPiece}
+use Rattle.lines.proofs.Along.{closing, went, unmoved, Stretch, values-placed, line-placed, Along, stretch}
 use Rattle.lines.proofs.Cut.{behind-at, behind-range}
 use Rattle.lines.proofs.Passed.{feed-empty, line-passed}
 use Rattle.lines.proofs.Pieces.{Shares, whole, empty, lines, piece-shares}
-use Rattle.lines.proofs.Agree.{SamePlace, goes-on, same-place, value, line, feed}
+use Rattle.lines.proofs.Agree.{goes-on, same-place, first-bytes, line, feed}
 use Rattle.intake.proofs.Kept.{FirstKept, short, long}
 use Rattle.imports.specs.Import.{headLine, headPlace, nameIn, ctsIn, headFault, importBody}
 use Rattle.imports.specs.Demand.{SameHead}
@@ -35,33 +35,32 @@ same-head : {s t : List ℕ} → SameLine s t → headPlace s ≡ headPlace t �
 unfolding headFault
 same-head o e = record { fault = rw (o .place, o .name, o .cts, e); name = o .name; cts = o .cts }
 
--- ---- by the first bytes: line 1 has 2 fields and at most 33 bytes
+-- line 1 has 2 fields and at most 33 bytes, from which a stretch that both texts have begins
+module _ {s t : List ℕ} {f : ℕ → ℕ} {In : ℕ → ℕ → Type 0} (o : Stretch s t f f In) (start : f 0 ≡ 0) (enough : In 33 0) where
+  same-line : SameLine s t
+  same-line = record {
+    place = rw start at (unmoved (line-placed o {Q = λ j. Unit {0}} IMPORT 2 0 33 0 (omega arith) enough (λ j l e. tt)));
+    name = rw start at (values-placed o IMPORT 0 33 0 (omega arith) enough);
+    cts = rw start at (values-placed o IMPORT 1 33 0 (omega arith) enough);
+  }
+
+-- ---- by the first bytes
 module _ (s t : List ℕ) (N : ℕ) (agree : (i : ℕ) → i < N → byteAt s i ≡ byteAt t i) (enough : 34 ≤ N) where
-  first-line : SamePlace 33 (headLine s) (headLine t)
-  first-line = line s t N agree 36 2 0 33 (omega arith) (omega arith)
+  agreed-place : headPlace s ≡ headPlace t
+  unfolding headPlace
+  agreed-place =
+      same-place (goes-on _ _ (line s t N agree IMPORT 2 0 33 (omega arith) (omega arith)) (λ i l. feed s t N agree i N (omega arith) (omega arith)))
 
   agreed-head : SameHead s t
-  unfolding headPlace
-  agreed-head = same-head
-      (record {
-        place = same-place first-line;
-        name = value s t N agree 36 0 0 (omega arith);
-        cts = value s t N agree 36 1 0 (omega arith);
-      })
-      (same-place (goes-on _ _ first-line (λ i l. feed s t N agree i N (omega arith) (omega arith))))
+  agreed-head = same-head (same-line (first-bytes s t N agree N (omega arith)) refl (omega arith)) agreed-place
 
-first-bytes : (s : List ℕ) → SameHead (take 16384 s) s
-first-bytes s = agreed-head (take 16384 s) s 16384 (λ i h. getD-take 16384 s i 256 h) (omega arith)
+first-enough : (s : List ℕ) → SameHead (take PIECE s) s
+first-enough s = agreed-head (take PIECE s) s PIECE (λ i h. getD-take PIECE s i 256 h) (omega arith)
 
 -- ---- by the first piece
 module _ {s t : List ℕ} where
   along-line : (m : ℕ) → Along s t 0 0 m → SameLine s t
-  unfolding lineAt
-  along-line m o = record {
-    place = unmoved (moved-then _ _ (fields-along o 36 2 0 (omega arith)) (feed-along o));
-    name = values-along o 36 0 0 (omega arith);
-    cts = values-along o 36 1 0 (omega arith);
-  }
+  along-line m o = same-line (stretch o) refl (omega arith)
 
   shared-line : Shares s t → SameLine s t
   shared-line (whole e) = record {
@@ -83,7 +82,7 @@ module _ (s : List ℕ) where
     where
       go : (x : Next) → headLine s ≡ x → andThen (headLine s) (lineFeed s) ≡ andThen (headLine (take i s)) (lineFeed (take i s))
       go (At j) q =
-          let inside = behind-range s j i true (sym (line-passed s 36 1 refl j q) ∙ e) .0 in
+          let inside = behind-range s j i true (sym (line-passed s IMPORT 1 refl j q) ∙ e) .0 in
           rw (← same, q, getD-take i s j 256 inside)
       go Wrong q = rw (← same, q)
 
@@ -112,7 +111,7 @@ via a b e = record {
 
 pub head-kept : {got text : List ℕ} → FirstKept got text → SameHead got text
 head-kept {got} {text} (short e) = via (first-head got) (first-head text) e
-head-kept {got} {text} (long e) = via (turned (first-bytes got)) (turned (first-bytes text)) e
+head-kept {got} {text} (long e) = via (turned (first-enough got)) (turned (first-enough text)) e
 
 -- ---- behind a head that is not refused stands what stands behind the first empty line
 module _ (s : List ℕ) where
@@ -122,13 +121,13 @@ module _ (s : List ℕ) where
       let front = went (headLine s) (lineFeed s) k e in
       let j = front .0 in
       let next = ap (λ (y : Next). andThen y (lineFeed s)) (sym (front .1)) ∙ e in
-      behind-at s 0 k (line-passed s 36 1 refl j (front .1) ∙ feed-empty s j k next)
+      behind-at s 0 k (line-passed s IMPORT 1 refl j (front .1) ∙ feed-empty s j k next)
   place-behind Wrong e u = absurd (false≢true u)
 
   pub clear-behind : headFault s ≡ clear → importBody s ≡ behind s
   unfolding headFault
   clear-behind e =
-      let ranges = unless (isName (nameIn s) && isMark (ctsIn s)) 2 1 in
-      let second = unless (isAt (headPlace s)) 1 2 in
-      let rest = then-clear (unless (isAt (headLine s)) 1 1) (second then ranges) e .1 in
-      place-behind (headPlace s) refl (unless-clear (isAt (headPlace s)) 1 2 (then-clear second ranges rest .0))
+      let ranges : Verdict = unless (isName (nameIn s) && isMark (ctsIn s)) RANGE 1 in
+      let second : Verdict = unless (isAt (headPlace s)) FORM 2 in
+      let rest = then-clear (unless (isAt (headLine s)) FORM 1) (second then ranges) e .1 in
+      place-behind (headPlace s) refl (unless-clear (isAt (headPlace s)) FORM 2 (then-clear second ranges rest .0))

@@ -1,19 +1,16 @@
--- An import in bounded memory: what is kept of its text keeps of each piece what decides it, so that the reply is that to the whole text.
-use mathlib.Core.Path.{_≡_, refl, sym, ap, _∙_}
+-- An import in bounded memory: what is kept of its text keeps of each piece what decides it.
+use mathlib.Core.Path.{_≡_, sym, ap, ap₂, _∙_}
 use mathlib.Core.List.{List}
 use Prim.Native.Nat.{ℕ, suc, _<_}
 use native.Mathlib.Omega.{arith}
-use Rattle.tariff.specs.Reply.{Verdict, clear, fault}
+use Rattle.tariff.specs.Reply.{clear}
 use Rattle.lines.specs.Pieces.{restAfter}
 use Rattle.lines.proofs.Pieces.{rest-behind}
 use Rattle.intake.specs.Intake.{keptOf, atFirst}
 use Rattle.intake.proofs.Kept.{FirstKept, short, long, first-piece, piece-kept, follows}
-use Rattle.imports.specs.Import.{headFault, importBody, importBlockAt, importReply}
-use Rattle.imports.specs.Demand.{blockIn, surplusIn, SameHead, same}
-use Rattle.imports.proofs.Heads.{head-refuses}
-use Rattle.imports.proofs.Closing.{piece-decides}
-use Rattle.imports.proofs.Local.{decided}
-use Rattle.imports.proofs.Uncounted.{replies-alike}
+use Rattle.imports.specs.Import.{headFault, importBody, ImportBlock, importBlockAt, blockVerdict, blockPart}
+use Rattle.imports.specs.Demand.{blockIn, faultIn, partIn, surplusIn, SameHead}
+use Rattle.imports.proofs.Closing.{piece-decides, decided}
 use Rattle.imports.proofs.KeptHead.{head-kept, clear-behind}
 
 -- a block of which enough is kept
@@ -26,26 +23,24 @@ body-rest : (s : List ℕ) → headFault s ≡ clear → (k : ℕ) → restAfter
 body-rest s e k = ap (restAfter k) (clear-behind s e) ∙ rest-behind k s
 
 module _ (hours : ℕ) (s : List ℕ) where
-  abbrev got : List ℕ
+  abbrev pub got : List ℕ
   got = keptOf (atFirst (suc hours)) s
 
-  head : SameHead got s
-  head = head-kept (first-piece hours s)
+  pub kept-head : SameHead got s
+  kept-head = head-kept (first-piece hours s)
 
   -- ---- each block, and whether bytes follow the last
   module _ (e : headFault s ≡ clear) where
     own : headFault got ≡ clear
-    own = head .fault ∙ e
+    own = kept-head .fault ∙ e
 
     block-same : (k : ℕ) → k < hours → blockIn got k ≡ blockIn s k
     block-same k u = rw (body-rest got own k, body-rest s e k) (block-kept (piece-kept (suc hours) s (suc k) (omega arith)))
 
-    surplus-same : surplusIn hours got ≡ surplusIn hours s
-    surplus-same = rw (body-rest got own hours, body-rest s e hours) (follows (suc hours) s)
+    pub kept-blocks : (k : ℕ) → k < hours → (faultIn got k ≡ faultIn s k) × (partIn got k ≡ partIn s k)
+    kept-blocks k u =
+        let same = block-same k u in
+        (ap (λ (b : ImportBlock). blockVerdict b k) same, ap₂ blockPart (kept-head .cts) same)
 
-  pub import-settled : importReply hours got ≡ importReply hours s
-  import-settled = go (headFault s) refl
-    where
-      go : (v : Verdict) → headFault s ≡ v → importReply hours got ≡ importReply hours s
-      go clear e = replies-alike hours got s head (λ k u. same (block-same e k u)) (surplus-same e)
-      go (fault number place) e = sym (head-refuses hours got number place (head .fault ∙ e)) ∙ head-refuses hours s number place e
+    pub kept-surplus : surplusIn hours got ≡ surplusIn hours s
+    kept-surplus = rw (body-rest got own hours, body-rest s e hours) (follows (suc hours) s)

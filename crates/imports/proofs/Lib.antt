@@ -3,7 +3,6 @@ pub mod Heads
 pub mod Blocks
 pub mod Added
 pub mod Closing
-pub mod Local
 pub mod Forms
 pub mod Uncounted
 pub mod KeptHead

@@ -1,20 +1,18 @@
--- An interval that does not count changes nothing: not what its block is worth, and not the reply to its text.
-use mathlib.Core.Path.{_≡_, ap, _∙_}
+-- An interval that does not count changes nothing: not the verdict on its block, and not its part of the day.
+use mathlib.Core.Path.{_≡_, ap}
 use mathlib.Core.Bool.{Bool}
-use mathlib.Core.List.{List}
-use Prim.Native.Nat.{ℕ, _+_, _<_}
+use Prim.Native.Nat.{ℕ, _+_}
 use native.Mathlib.Decide.{ℕ-discrete}
 use lib.IntN.{ℤ}
 use Rattle.exact.proofs.Sums.{sum-same}
 use Rattle.tariff.specs.declared.ImportHour.{ImportHour}
 use Rattle.tariff.specs.declared.Seconds.{Seconds}
-use Rattle.tariff.specs.Reply.{unless}
-use Rattle.tariff.specs.Import.{curtailedInRange, curtailed, importForm, importRange, importOrder, importSeconds, importPart}
+use Rattle.tariff.specs.Reply.{RANGE, unless}
+use Rattle.tariff.specs.Import.{curtailedInRange, curtailed, importForm, importRange, importOrder, importSeconds, importFault, importPart}
 use Rattle.tariff.proofs.Checks.{first-same}
-use Rattle.tariff.proofs.Imports.{not-counting-changes-nothing}
-use Rattle.tariff.proofs.ImportDays.{parts-same}
-use Rattle.imports.specs.Import.{ctsIn, ImportBlock, partFrom, partAt, importReply}
-use Rattle.imports.specs.Demand.{blockIn, partIn, surplusIn, SameHead, UncountedApart, BlocksApart, same, apart}
+use Rattle.tariff.proofs.ImportGrains.{not-counting-changes-nothing}
+use Rattle.imports.specs.Import.{ImportBlock, blockVerdict, blockPart}
+use Rattle.imports.specs.Demand.{UncountedApart, ImportBlocksApart, same, apart}
 
 module _ (cts : ℤ) (h g : ImportHour) (o : UncountedApart cts h g) where
   range-at : (i : ℕ) → Dec (i ≡ o .at) → curtailedInRange (curtailed h i) ≡ curtailedInRange (curtailed g i)
@@ -33,8 +31,8 @@ module _ (cts : ℤ) (h g : ImportHour) (o : UncountedApart cts h g) where
   range-same : importRange h ≡ importRange g
   unfolding importRange
   range-same =
-      let each = first-same (λ i. unless (curtailedInRange (curtailed h i)) 2 (i + 2)) (λ i. unless (curtailedInRange (curtailed g i)) 2 (i + 2)) (h .n)
-      (λ i u. ap (λ (b : Bool). unless b 2 (i + 2)) (range-at i (ℕ-discrete i (o .at)))) in
+      let each = first-same (λ i. unless (curtailedInRange (curtailed h i)) RANGE (i + 2)) (λ i. unless (curtailedInRange (curtailed g i)) RANGE (i + 2)) (h .n)
+      (λ i u. ap (λ (b : Bool). unless b RANGE (i + 2)) (range-at i (ℕ-discrete i (o .at)))) in
       rw (o .hour, o .den, o .dec, each, o .n)
 
   order-same : (k : ℕ) → importOrder h k ≡ importOrder g k
@@ -47,23 +45,15 @@ module _ (cts : ℤ) (h g : ImportHour) (o : UncountedApart cts h g) where
       let sums = sum-same (λ i. curtailed h i .s .0) (λ i. curtailed g i .s .0) (h .n) (λ i u. seconds-at i (ℕ-discrete i (o .at))) in
       rw (sums, o .n)
 
-  part-same : (k : ℕ) → importPart cts h k ≡ importPart cts g k
+  fault-same : (k : ℕ) → importFault h k ≡ importFault g k
+  fault-same k = rw (form-same, range-same, order-same k, seconds-same)
+
+  part-same : importPart cts h ≡ importPart cts g
   unfolding importPart
-  part-same k =
-      let sums = not-counting-changes-nothing cts h g (o .at) (o .den) (o .dec) (o .n) (o .others) (o .not-one) (o .not-other) in
-      rw (form-same, range-same, order-same k, seconds-same, sums)
+  part-same = rw (not-counting-changes-nothing cts h g (o .at) (o .den) (o .dec) (o .n) (o .others) (o .not-one) (o .not-other))
 
--- ---- blocks and texts
+-- ---- blocks
 
-from-alike : {cts : ℤ} {b c : ImportBlock} (k : ℕ) → BlocksApart cts b c → partFrom b cts k ≡ partFrom c cts k
-from-alike {cts} k (same e) = ap (λ (b : ImportBlock). partFrom b cts k) e
-from-alike {cts} k (apart h g p q o) = rw (p, q) (part-same cts h g o k)
-
-module _ (hours : ℕ) (s t : List ℕ) (o : SameHead s t) (blocks : (k : ℕ) → k < hours → BlocksApart (ctsIn s) (blockIn s k) (blockIn t k)) where
-  each-alike : (k : ℕ) → k < hours → partIn s k ≡ partIn t k
-  unfolding partAt
-  each-alike k u = from-alike k (blocks k u) ∙ ap (λ (cts : ℤ). partFrom (blockIn t k) cts k) (o .cts)
-
-  pub replies-alike : surplusIn hours s ≡ surplusIn hours t → importReply hours s ≡ importReply hours t
-  unfolding importReply
-  replies-alike e = rw (o .fault, o .name, e, parts-same (partIn s) (partIn t) hours each-alike)
+pub blocks-alike : (cts : ℤ) (b c : ImportBlock) (k : ℕ) → ImportBlocksApart cts b c → (blockVerdict b k ≡ blockVerdict c k) × (blockPart cts b ≡ blockPart cts c)
+blocks-alike cts b c k (same e) = (rw e, rw e)
+blocks-alike cts b c k (apart h g p q o) = (rw (p, q) (fault-same cts h g o k), rw (p, q) (part-same cts h g o))

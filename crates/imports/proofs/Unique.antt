@@ -1,6 +1,6 @@
 -- No two different replies satisfy the contract of the public function.
 use Rattle.exact.proofs.Unique.{OneReply}
-use Rattle.tariff.proofs.Imports.{one-import-reply}
+use Rattle.tariff.proofs.Answers.{one-import-reply}
 use Rattle.imports.proofs.settle_import.Reads as settle-import
 
 pub one-settle-import : OneReply settle-import.Post

@@ -8,18 +8,20 @@ use lib.IntN.{ℤ}
 use Rattle.exact.specs.Whole.{sumTo}
 use Rattle.tariff.specs.declared.ImportHour.{ImportHour}
 use Rattle.tariff.specs.Units.{centsOf}
-use Rattle.tariff.specs.Reply.{clear}
-use Rattle.tariff.specs.Import.{curtailed, curtailedInRange, counts, Part}
-use Rattle.tariff.specs.ImportDemand.{grainsIn, IsPart}
+use Rattle.tariff.specs.Reply.{Verdict, clear}
+use Rattle.tariff.specs.Import.{curtailed, curtailedInRange, counts}
 use Rattle.lines.specs.Pieces.{restAfter, isSome}
-use Rattle.imports.specs.Import.{nameIn, ctsIn, headFault, importBody, ImportBlock, broken, read, importBlockAt, partAt}
+use Rattle.imports.specs.Import.{nameIn, ctsIn, headFault, importBody, ImportBlock, broken, read, importBlockAt, blockVerdict, blockPart}
 
--- block k of a text, and what it is worth
+-- block k of a text, the verdict on it, and its part of the day
 abbrev pub blockIn : List ℕ → ℕ → ImportBlock
 blockIn s k = importBlockAt (restAfter k (importBody s)) 0
 
-abbrev pub partIn : List ℕ → ℕ → Part
-partIn s = partAt (ctsIn s) (importBody s)
+abbrev pub faultIn : List ℕ → ℕ → Verdict
+faultIn s k = blockVerdict (blockIn s k) k
+
+abbrev pub partIn : List ℕ → ℕ → ℤ
+partIn s k = blockPart (ctsIn s) (blockIn s k)
 
 -- whether bytes follow the last of the blocks
 abbrev pub surplusIn : (hours : ℕ) → List ℕ → Bool
@@ -31,23 +33,23 @@ surplusIn hours s = isSome (restAfter hours (importBody s))
 pub record FirstBroken (hours : ℕ) (s : List ℕ) (hour line : ℕ) : Type 0 where
   pub head : headFault s ≡ clear
   pub below : hour < hours
-  pub before : (j : ℕ) → j < hour → IsPart (partIn s j)
+  pub before : (j : ℕ) → j < hour → faultIn s j ≡ clear
   pub breaks : blockIn s hour ≡ broken line
 
 -- neither the first two lines nor a block is refused, and bytes follow the last block
 pub record Surplus (hours : ℕ) (s : List ℕ) : Type 0 where
   pub head : headFault s ≡ clear
-  pub parts : (k : ℕ) → k < hours → IsPart (partIn s k)
+  pub blocks : (k : ℕ) → k < hours → faultIn s k ≡ clear
   pub follow : surplusIn hours s ≡ true
 
 -- neither the first two lines nor a block is refused, and no bytes follow the last; the import that line 1 names is paid the sum g of
 -- all parts, and its cents c, to which g is rounded down once
 pub record PaidBy (hours : ℕ) (s : List ℕ) (who g c : ℤ) : Type 0 where
   pub head : headFault s ≡ clear
-  pub parts : (k : ℕ) → k < hours → IsPart (partIn s k)
+  pub blocks : (k : ℕ) → k < hours → faultIn s k ≡ clear
   pub ends : surplusIn hours s ≡ false
   pub name : who ≡ nameIn s
-  pub grains : g ≡ sumTo (λ k. grainsIn (partIn s k)) hours
+  pub grains : g ≡ sumTo (partIn s) hours
   pub cents : c ≡ centsOf g
 
 -- ---- two texts
@@ -72,6 +74,6 @@ pub record UncountedApart (cts : ℤ) (h g : ImportHour) : Type 0 where
   pub range : curtailedInRange (curtailed h at) ≡ curtailedInRange (curtailed g at)
 
 -- two blocks that are the same, or whose hours differ so
-pub data BlocksApart (cts : ℤ) (b c : ImportBlock) : Type 0 where
-  same : b ≡ c → BlocksApart cts b c
-  apart : (h g : ImportHour) → b ≡ read h → c ≡ read g → UncountedApart cts h g → BlocksApart cts b c
+pub data ImportBlocksApart (cts : ℤ) (b c : ImportBlock) : Type 0 where
+  same : b ≡ c → ImportBlocksApart cts b c
+  apart : (h g : ImportHour) → b ≡ read h → c ≡ read g → UncountedApart cts h g → ImportBlocksApart cts b c

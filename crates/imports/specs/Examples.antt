@@ -7,19 +7,19 @@ use lib.IntN.{pos, negsuc}
 use Rattle.exact.specs.Whole.{maxℤ, upTo, sumTo}
 use Rattle.tariff.specs.declared.ImportHour.{ImportHour}
 use Rattle.tariff.specs.Units.{kw, price, seconds, centsOf}
-use Rattle.tariff.specs.Reply.{clear, fault, firstOf}
-use Rattle.tariff.specs.Import.{blankCurtailed, curtailedInRange, importForm, importRange, importOrder, importSeconds, counts, importGrains, importSum, importPart, partsTo, outside, inHour, ImportReply, paid, refused}
+use Rattle.tariff.specs.Reply.{FORM, RANGE, ORDER, SECONDS, clear, fault, firstOf}
+use Rattle.tariff.specs.Import.{blankCurtailed, curtailedInRange, importForm, importRange, importOrder, importSeconds, counts, importGrains, importSum, importPart, outside, inHour, importDayFault, ImportReply, paid, refused, importReplyBy}
 use Rattle.text.specs.Text.{bytes, keyAt}
 use Rattle.text.specs.Number.{digitAt, moreDigits, naturalAt, numberAt}
 use Rattle.lines.specs.Line.{valueAt, fieldAt, afterFields, valueIn, lineAt, closes}
-use Rattle.lines.specs.Rows.{rowPlace, rowIn, counted, brokenRow, rowsAt}
+use Rattle.lines.specs.Series.{seriesPlace, seriesIn, lineCount, brokenLine, seriesAt}
 use Rattle.lines.specs.Cut.{emptyIn, behind}
 use Rattle.lines.specs.Pieces.{restAfter}
-use Rattle.imports.specs.Import.{headPlace, nameIn, ctsIn, headFault, importBody, ImportBlock, broken, read, importBlockAt, partAt, importReply}
+use Rattle.imports.specs.Import.{headPlace, nameIn, ctsIn, headFault, importBody, curtailedLine, ImportBlock, broken, read, importBlockAt, replyUnder, importReply}
 
 -- what a proof by computation opens
 reading : List ℕ → ImportBlock
-unfolding importBlockAt headFault headPlace rowsAt rowIn rowPlace closes lineAt valueIn afterFields fieldAt valueAt keyAt numberAt naturalAt moreDigits digitAt upTo
+unfolding importBlockAt headFault headPlace seriesAt seriesIn seriesPlace closes lineAt valueIn afterFields fieldAt valueAt keyAt numberAt naturalAt moreDigits digitAt upTo
 reading s = importBlockAt s 0
 
 -- ---- the first two lines
@@ -43,32 +43,32 @@ body-behind : importBody (head ++ bytes "hour=0") ≡ bytes "hour=0"
 unfolding reading
 body-behind = refl
 
-no-text : headFault [] ≡ fault 1 1
+no-text : headFault [] ≡ fault FORM 1
 unfolding reading
 no-text = refl
 
-no-mark : headFault (bytes "import=77\n\n") ≡ fault 1 1
+no-mark : headFault (bytes "import=77\n\n") ≡ fault FORM 1
 unfolding reading
 no-mark = refl
 
-no-empty-line : headFault (bytes "import=77 cts=0\nhour=0") ≡ fault 1 2
+no-empty-line : headFault (bytes "import=77 cts=0\nhour=0") ≡ fault FORM 2
 unfolding reading
 no-empty-line = refl
 
 -- FORM comes before RANGE: the two lines are one header
-form-first : headFault (bytes "import=0 cts=0\n") ≡ fault 1 2
+form-first : headFault (bytes "import=0 cts=0\n") ≡ fault FORM 2
 unfolding reading
 form-first = refl
 
-no-name : headFault (bytes "import=0 cts=0\n\n") ≡ fault 2 1
+no-name : headFault (bytes "import=0 cts=0\n\n") ≡ fault RANGE 1
 unfolding reading
 no-name = refl
 
-odd-mark : headFault (bytes "import=77 cts=2\n\n") ≡ fault 2 1
+odd-mark : headFault (bytes "import=77 cts=2\n\n") ≡ fault RANGE 1
 unfolding reading
 odd-mark = refl
 
-below-mark : headFault (bytes "import=77 cts=-1\n\n") ≡ fault 2 1
+below-mark : headFault (bytes "import=77 cts=-1\n\n") ≡ fault RANGE 1
 unfolding reading
 below-mark = refl
 
@@ -119,18 +119,18 @@ unfolding reading
 bad-behind-good = refl
 
 -- after 29 interval lines one more is the last: the next is line 32, whatever it holds
-thirty-lines : rowsAt 41 7 2 1 interval 0 29 ≡ counted 30
+thirty-lines : seriesAt curtailedLine 2 1 interval 0 29 ≡ lineCount 30
 unfolding reading
 thirty-lines = refl
 
-line-too-many : rowsAt 41 7 2 1 (interval ++ bytes "?") 0 29 ≡ brokenRow 32
+line-too-many : seriesAt curtailedLine 2 1 (interval ++ bytes "?") 0 29 ≡ brokenLine 32
 unfolding reading
 line-too-many = refl
 
 -- ---- the reply to a day of one hour or of two: four quarters of 40,000 kW at 5,000 cents per MWh are 720,000,000,000 grains
 
 replying : List ℕ → ImportReply
-unfolding reading importReply partAt restAfter behind emptyIn partsTo importPart importForm importRange importOrder importSeconds curtailedInRange firstOf importSum importGrains counts maxℤ sumTo centsOf
+unfolding reading importReply replyUnder restAfter behind emptyIn importReplyBy importDayFault importPart importForm importRange importOrder importSeconds curtailedInRange firstOf importSum importGrains counts maxℤ sumTo centsOf
 replying s = importReply 1 s
 
 abbrev block : List ℕ
@@ -145,22 +145,22 @@ empty-line-closes : importReply 1 (head ++ block ++ bytes "\n") ≡ paid (pos 77
 unfolding replying
 empty-line-closes = refl
 
-surplus : importReply 1 (head ++ block ++ bytes "\n\n") ≡ refused 3 outside 0
+surplus : importReply 1 (head ++ block ++ bytes "\n\n") ≡ refused ORDER (outside 0)
 unfolding replying
 surplus = refl
 
 -- an absent block is an empty block
-absent : importReply 2 (head ++ block) ≡ refused 1 (inHour 1) 1
+absent : importReply 2 (head ++ block) ≡ refused FORM (inHour 1 1)
 unfolding replying
 absent = refl
 
 -- ORDER: block 1 says hour 0
-twice : importReply 2 (head ++ block ++ bytes "\n" ++ block) ≡ refused 3 (inHour 1) 1
+twice : importReply 2 (head ++ block ++ bytes "\n" ++ block) ≡ refused ORDER (inHour 1 1)
 unfolding replying
 twice = refl
 
 -- SECONDS in block 0 comes before FORM in block 1
-first-block-first : importReply 2 (head ++ line1 ++ interval ++ bytes "\n?") ≡ refused 5 (inHour 0) 0
+first-block-first : importReply 2 (head ++ line1 ++ interval ++ bytes "\n?") ≡ refused SECONDS (inHour 0 0)
 unfolding replying
 first-block-first = refl
 

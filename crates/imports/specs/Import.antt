@@ -2,34 +2,36 @@
 use mathlib.Core.Bool.{_&&_}
 use mathlib.Core.List.{List}
 use Prim.Native.Nat.{ℕ}
-use lib.IntN.{ℤ}
+use lib.IntN.{ℤ, pos}
 use lib.ListN.{drop}
 use Rattle.tariff.specs.declared.Curtailed.{Curtailed}
 use Rattle.tariff.specs.declared.ImportHour.{ImportHour}
 use Rattle.tariff.specs.Units.{kw, price}
-use Rattle.tariff.specs.Reply.{FORM, RANGE, Verdict, clear, fault, unless, _then_}
-use Rattle.tariff.specs.Import.{isMark, isName, blankCurtailed, Part, stopped, importPart, partsTo, ImportReply, refused, outside, settled}
+use Rattle.tariff.specs.Reply.{FORM, RANGE, Verdict, fault, unless, _then_}
+use Rattle.tariff.specs.Import.{blankCurtailed, importFault, importPart, importDayFault, ImportReply, importReplyBy}
+use Rattle.tariff.specs.Sheet.{isMark, isName}
 use Rattle.text.specs.declared.Next.{Next}
 use Rattle.text.specs.declared.Next.the-variants.{At, Wrong}
 use Rattle.records.specs.Records.{curtailedOf}
+use Rattle.keys.specs.Keys.{IMPORT, IMPORT-HOUR, CURTAILED}
 use Rattle.lines.specs.Line.{isAt, placeIn, andThen, valueIn, lineFeed, lineAt, filled}
-use Rattle.lines.specs.Rows.{rowIn, Rows, counted, brokenRow, rowsAt}
+use Rattle.lines.specs.Series.{seriesIn, Series, lineCount, brokenLine, seriesAt}
 use Rattle.lines.specs.Pieces.{restAfter, isSome}
 
--- ---- the first two lines: keys 36 and 37, and an empty line
+-- ---- the first two lines: name and mark, and an empty line
 
 -- behind line 1, and behind both; or nowhere, where a line is not as printed
 abbrev pub headLine : List ℕ → Next
-headLine s = lineAt 36 2 s 0
+headLine s = lineAt IMPORT 2 s 0
 
 unfoldable pub headPlace : List ℕ → Next
 headPlace s = andThen (headLine s) (lineFeed s)
 
 abbrev pub nameIn : List ℕ → ℤ
-nameIn s = valueIn 36 s 0 0
+nameIn s = valueIn IMPORT s 0 0
 
 abbrev pub ctsIn : List ℕ → ℤ
-ctsIn s = valueIn 36 s 0 1
+ctsIn s = valueIn IMPORT s 0 1
 
 unfoldable pub headFault : List ℕ → Verdict
 headFault s =
@@ -40,46 +42,65 @@ headFault s =
 abbrev pub importBody : List ℕ → List ℕ
 importBody s = drop (placeIn (headPlace s)) s
 
--- ---- a block: line 1, keys 38 to 40, and up to 30 interval lines, keys 41 to 47, from line 2 on
+-- ---- the lines of a block: line 1, and interval lines
 
--- interval i, where the first line of them stands at `at`
+abbrev pub importHourLine : List ℕ → ℕ → Next
+importHourLine = lineAt IMPORT-HOUR 3
+
+-- an interval line, and what it says
+abbrev pub curtailedLine : List ℕ → ℕ → Next
+curtailedLine = lineAt CURTAILED 7
+
+abbrev pub curtailedSaid : List ℕ → ℕ → Curtailed
+curtailedSaid s at = curtailedOf (valueIn CURTAILED s at)
+
+-- where the first interval line stands at `at`: interval i; and how many there are, up to 30, from line 2 on
 abbrev pub curtailedAt : List ℕ → (at i : ℕ) → Curtailed
-curtailedAt = rowIn 41 7 curtailedOf blankCurtailed
+curtailedAt = seriesIn curtailedLine curtailedSaid blankCurtailed
+
+abbrev pub curtailedLines : List ℕ → (at : ℕ) → Series
+curtailedLines s at = seriesAt curtailedLine 2 30 s at 0
+
+-- ---- a block
 
 pub data ImportBlock : Type 0 where
   broken : ℕ → ImportBlock
   read : ImportHour → ImportBlock
 
-abbrev pub withCurtailed : (ℕ → ℤ) → List ℕ → ℕ → Rows → ImportBlock
-withCurtailed v s at (brokenRow line) = broken line
-withCurtailed v s at (counted n) =
-    read (record { hour = v 0; den = kw (v 1); dec = price (v 2); n = n; iv = filled n 30 (curtailedAt s at) blankCurtailed })
+-- the record of line 1's values and n intervals, the first of which stands at `at`
+abbrev pub importHourWith : (ℕ → ℤ) → List ℕ → (at n : ℕ) → ImportHour
+importHourWith v s at n = record { hour = v 0; den = kw (v 1); dec = price (v 2); n = n; iv = filled n 30 (curtailedAt s at) blankCurtailed }
+
+abbrev pub withCurtailed : (ℕ → ℤ) → List ℕ → ℕ → Series → ImportBlock
+withCurtailed v s at (brokenLine line) = broken line
+withCurtailed v s at (lineCount n) = read (importHourWith v s at n)
 
 abbrev pub afterImportLine1 : Next → List ℕ → ℕ → ImportBlock
 afterImportLine1 Wrong s from = broken 1
-afterImportLine1 (At at) s from = withCurtailed (valueIn 38 s from) s at (rowsAt 41 7 2 30 s at 0)
+afterImportLine1 (At at) s from = withCurtailed (valueIn IMPORT-HOUR s from) s at (curtailedLines s at)
 
 -- the block that begins at a place: read up to its first empty line or the end of the text
 unfoldable pub importBlockAt : List ℕ → ℕ → ImportBlock
-importBlockAt s from = afterImportLine1 (lineAt 38 3 s from) s from
+importBlockAt s from = afterImportLine1 (importHourLine s from) s from
 
 -- ---- the day
 
--- FORM comes before every other check
-abbrev pub partFrom : ImportBlock → (cts : ℤ) → ℕ → Part
-partFrom (broken line) cts k = stopped FORM line
-partFrom (read h) cts k = importPart cts h k
+-- the verdict on a block at place k: FORM comes before every other check
+abbrev pub blockVerdict : ImportBlock → ℕ → Verdict
+blockVerdict (broken line) k = fault FORM line
+blockVerdict (read h) k = importFault h k
 
--- the part of block place k of a body. An hour without a block is an empty block
-unfoldable pub partAt : (cts : ℤ) → List ℕ → ℕ → Part
-partAt cts body k = partFrom (importBlockAt (restAfter k body) 0) cts k
+-- its part: a block that is not read has none, and its 0 is never paid, since its day is refused
+abbrev pub blockPart : (cts : ℤ) → ImportBlock → ℤ
+blockPart cts (broken line) = pos 0
+blockPart cts (read h) = importPart cts h
 
-abbrev pub replyUnder : Verdict → ImportReply → ImportReply
-replyUnder clear reply = reply
-replyUnder (fault number place) reply = refused number outside place
+-- the reply to a body under its first two lines. An hour without a block is an empty block; if none is refused, bytes behind the last are ORDER
+unfoldable pub replyUnder : (head : Verdict) → (name cts : ℤ) → (hours : ℕ) → (body : List ℕ) → ImportReply
+replyUnder head name cts hours body =
+    let block : ℕ → ImportBlock = λ k. importBlockAt (restAfter k body) 0 in
+    let day = importDayFault head (λ k. blockVerdict (block k) k) hours (isSome (restAfter hours body)) in
+    importReplyBy name day (λ k. blockPart cts (block k)) hours
 
--- if no block is refused, bytes behind the last are ORDER
 unfoldable pub importReply : (hours : ℕ) → List ℕ → ImportReply
-importReply hours s =
-    let body = importBody s in
-    replyUnder (headFault s) (settled (nameIn s) (isSome (restAfter hours body)) (partsTo (partAt (ctsIn s) body) hours))
+importReply hours s = replyUnder (headFault s) (nameIn s) (ctsIn s) hours (importBody s)

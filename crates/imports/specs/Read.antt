@@ -2,21 +2,20 @@
 use mathlib.Core.Path.{_≡_}
 use mathlib.Core.List.{List}
 use Prim.Native.Nat.{ℕ}
-use lib.IntN.{pos}
+use lib.IntN.{ℤ, pos}
 use lib.ListN.{replicate}
 use Rattle.tariff.specs.declared.Check.{Check}
 use Rattle.tariff.specs.declared.Found.the-variants.{Fault}
 use Rattle.tariff.specs.declared.ImportHour.{ImportHour}
 use Rattle.tariff.specs.Units.{kw, price}
 use Rattle.tariff.specs.Reply.{FORM, Verdict, clear, fault, shown}
-use Rattle.tariff.specs.Import.{blankCurtailed, Part, part, stopped, ImportReply, refused, inHour}
+use Rattle.tariff.specs.Import.{blankCurtailed, inHour, putIn, ImportReply, refused, otherwise, worthBy}
 use Rattle.lines.specs.Line.{placeIn}
-use Rattle.lines.specs.Rows.{RowsFound}
-use Rattle.imports.specs.declared.block.RowsRead.{RowsRead}
+use Rattle.lines.specs.Told.{SeriesFound}
+use Rattle.imports.specs.declared.block.SeriesRead.{SeriesRead}
 use Rattle.imports.specs.declared.block.ImportRead.{ImportRead}
 use Rattle.imports.specs.declared.head.Head.{Head}
-use Rattle.imports.specs.Import.{headPlace, nameIn, ctsIn, headFault, ImportBlock, broken, read}
-use Rattle.records.specs.Records.{curtailedOf}
+use Rattle.imports.specs.Import.{headPlace, nameIn, ctsIn, headFault, curtailedLine, curtailedSaid, ImportBlock, broken, read, blockVerdict, blockPart}
 
 -- ---- the first two lines: their fault or none, what they say and where they end. Lines that are refused say nothing, as zeros
 
@@ -36,18 +35,22 @@ refusedHead check = record { found = Fault check; name = pos 0; cts = pos 0; nex
 -- ---- a block: the first line that is not as printed, from 1, or 0 and the record. No record goes with a broken block
 
 -- the interval lines of a block: up to 30 from line 2 on, so that one too many is line 32
-abbrev pub RowsReadAt : List ℕ → (at : ℕ) → RowsRead → Type 0
-RowsReadAt s at r = RowsFound 41 7 2 30 curtailedOf blankCurtailed s at (r .broken) (r .n) (r .iv)
+abbrev pub SeriesReadAt : List ℕ → (at : ℕ) → SeriesRead → Type 0
+SeriesReadAt s at r = SeriesFound curtailedLine 2 30 curtailedSaid blankCurtailed s at (r .broken) (r .n) (r .iv)
 
 abbrev pub noImportHour : ImportHour
 noImportHour = record { hour = pos 0; den = kw (pos 0); dec = price (pos 0); n = 0; iv = replicate 30 blankCurtailed }
 
-abbrev pub readOf : ImportBlock → ImportRead
-readOf (broken line) = record { broken = line; hour = noImportHour }
-readOf (read h) = record { broken = 0; hour = h }
+abbrev pub importReadOf : ImportBlock → ImportRead
+importReadOf (broken line) = record { broken = line; hour = noImportHour }
+importReadOf (read h) = record { broken = 0; hour = h }
+
+-- ---- what a block is worth as block k of its day
+
+abbrev pub blockWorth : (cts : ℤ) → ImportBlock → (k : ℕ) → Verdict × ℤ
+blockWorth cts b k = worthBy (blockVerdict b k) (blockPart cts b)
 
 -- ---- the refusal of block k, handed on with its hour. A part is no refusal: were one handed on, it would be FORM at line 0, which no block has
 
-abbrev pub handedOn : Part → (k : ℕ) → ImportReply
-handedOn (stopped number place) k = refused number (inHour k) place
-handedOn (part grains) k = refused FORM (inHour k) 0
+abbrev pub handedOn : Verdict → (k : ℕ) → ImportReply
+handedOn v k = otherwise (putIn (inHour k) v) (refused FORM (inHour k 0))

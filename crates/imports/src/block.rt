@@ -1,7 +1,7 @@
 // An import's block, read into a record: line 1, and up to 30 interval lines.
 ghost use mathlib.Core.Path.{_≡_};
 ghost use Rattle.imports.specs.Import.{broken, importBlockAt};
-ghost use Rattle.imports.specs.Read.{RowsReadAt, readOf};
+ghost use Rattle.imports.specs.Read.{SeriesReadAt, importReadOf};
 use tariff::Curtailed;
 use tariff::ImportHour;
 use tariff::Kw;
@@ -9,7 +9,7 @@ use tariff::Price;
 use text::Next;
 
 // The interval lines of a block: `broken` is the first line that is not as printed, or 0.
-pub struct RowsRead {
+pub struct SeriesRead {
     pub broken: usize,
     pub n: usize,
     pub iv: [Curtailed; 30],
@@ -22,20 +22,20 @@ pub struct ImportRead {
 }
 
 // Up to 30 interval lines, and the end of the block.
-pub fn rows_at(s: &[u8], at: usize) -> RowsRead
-    ensures { λ r. ⌜ RowsReadAt (now (s .entry)) at r ⌝ }
+pub fn series_at(s: &[u8], at: usize) -> SeriesRead
+    ensures { λ r. ⌜ SeriesReadAt (now (s .entry)) at r ⌝ }
 {
     let mut iv = [records::blank_curtailed(); 30];
     let mut i = at;
     let mut n: usize = 0;
     while !lines::is_closed(s, i) {
         if 30 <= n {
-            return RowsRead { broken: 32, n, iv };
+            return SeriesRead { broken: 32, n, iv };
         }
-        let fields = lines::fields_at(s, i, 41, 7);
+        let fields = lines::fields_at(s, i, keys::CURTAILED, 7);
         let end = fields.next;
         let Next::At(next) = lines::line_end(s, end) else {
-            return RowsRead {
+            return SeriesRead {
                 broken: n + 2,
                 n,
                 iv,
@@ -46,12 +46,12 @@ pub fn rows_at(s: &[u8], at: usize) -> RowsRead
         i = next;
         n += 1;
     }
-    RowsRead { broken: 0, n, iv }
+    SeriesRead { broken: 0, n, iv }
 }
 
 // A block whose line is not as printed: no record goes with it.
 pub fn broken_block(line: usize) -> ImportRead
-    ensures { λ r. ⌜ r ≡ readOf (broken line) ⌝ }
+    ensures { λ r. ⌜ r ≡ importReadOf (broken line) ⌝ }
 {
     ImportRead {
         broken: line,
@@ -67,21 +67,21 @@ pub fn broken_block(line: usize) -> ImportRead
 
 // The block that begins at a place, read up to its first empty line or the text's end.
 pub fn read_block(s: &[u8], at: usize) -> ImportRead
-    ensures { λ r. ⌜ r ≡ readOf (importBlockAt (now (s .entry)) at) ⌝ }
+    ensures { λ r. ⌜ r ≡ importReadOf (importBlockAt (now (s .entry)) at) ⌝ }
 {
-    let first = lines::fields_at(s, at, 38, 3);
+    let first = lines::fields_at(s, at, keys::IMPORT_HOUR, 3);
     let v = first.values;
     let fields = first.next;
     let Next::At(next) = lines::line_end(s, fields) else {
         return broken_block(1);
     };
-    let rows = rows_at(s, next);
-    let broken = rows.broken;
+    let series = series_at(s, next);
+    let broken = series.broken;
     if broken != 0 {
         return broken_block(broken);
     }
-    let n = rows.n;
-    let iv = rows.iv;
+    let n = series.n;
+    let iv = series.iv;
     ImportRead {
         broken: 0,
         hour: ImportHour {

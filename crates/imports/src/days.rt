@@ -4,10 +4,10 @@ ghost use Prim.Native.Nat.{_≤_};
 ghost use lib.IntN.{_+ℤ_};
 ghost use lib.ListN.{length, drop};
 ghost use Rattle.exact.specs.Whole.{Within};
-ghost use Rattle.tariff.specs.Import.{partsTo, settled, worthTold, importTold};
-ghost use Rattle.lines.specs.Pieces.{restAfter, isSome};
-ghost use Rattle.imports.specs.Import.{importBlockAt, partFrom, partAt};
-ghost use Rattle.imports.specs.Read.{handedOn};
+ghost use Rattle.tariff.specs.Reply.{clear};
+ghost use Rattle.tariff.specs.Import.{worthTold, importTold};
+ghost use Rattle.imports.specs.Import.{importBlockAt, replyUnder};
+ghost use Rattle.imports.specs.Read.{blockWorth, handedOn};
 use crate::block;
 use tariff::Check;
 use tariff::Grains;
@@ -18,7 +18,7 @@ use tariff::Worth;
 // What the block that begins at a place is worth, as block k of its day.
 pub fn settle_block(s: &[u8], at: usize, cts: i64, k: usize) -> Worth
     requires { ⌜ at ≤ length (now s) ⌝ }
-    ensures { λ r. ⌜ worthTold r ≡ partFrom (importBlockAt (drop at (now (s .entry))) 0) cts k ⌝ }
+    ensures { λ r. ⌜ worthTold r ≡ blockWorth cts (importBlockAt (drop at (now (s .entry))) 0) k ⌝ }
 {
     let rest = &s[at..];
     let read = block::read_block(rest, 0);
@@ -41,7 +41,7 @@ pub fn plus(sum: Grains, part: Grains) -> Grains
 // The refusal of block k, handed on with its hour. What is worth a part is never handed on, and no form of the language leaves that
 // arm out: it refuses the day too, and names the hour, so that no block could go missing from a payment.
 pub fn handed_on(answer: Worth, k: usize) -> ImportAnswer
-    ensures { λ r. ⌜ importTold r ≡ handedOn (worthTold answer) k ⌝ }
+    ensures { λ r. ⌜ importTold r ≡ handedOn (worthTold answer .0) k ⌝ }
 {
     match answer {
         Worth::Refused(check) => ImportAnswer::Refused(ImportFault::Block(k, check)),
@@ -52,7 +52,7 @@ pub fn handed_on(answer: Worth, k: usize) -> ImportAnswer
 // The first `hours` blocks from a place on.
 pub fn settle_blocks(s: &[u8], at: usize, name: i64, cts: i64, hours: usize) -> ImportAnswer
     requires { ⌜ (at ≤ length (now s)) × (hours ≤ 24) ⌝ }
-    ensures { λ r. ⌜ importTold r ≡ settled name (isSome (restAfter hours (drop at (now (s .entry))))) (partsTo (partAt cts (drop at (now (s .entry)))) hours) ⌝ }
+    ensures { λ r. ⌜ importTold r ≡ replyUnder clear name cts hours (drop at (now (s .entry))) ⌝ }
 {
     let mut sum = Grains(0);
     let mut i = at;

@@ -1,7 +1,7 @@
 // The first two lines of an import: `import=N cts=C`, and an empty line.
 ghost use mathlib.Core.Path.{_≡_};
 ghost use mathlib.Core.Bool.{_&&_};
-ghost use Rattle.tariff.specs.Import.{isMark, isName};
+ghost use Rattle.tariff.specs.Sheet.{isMark, isName};
 ghost use Rattle.imports.specs.Read.{HeadRead, refusedHead};
 use tariff::Check;
 use tariff::Found;
@@ -40,7 +40,7 @@ pub fn in_range(name: i64, cts: i64) -> bool
 pub fn read_head(s: &[u8]) -> Head
     ensures { λ r. ⌜ HeadRead (now (s .entry)) r ⌝ }
 {
-    let first = lines::fields_at(s, 0, 36, 2);
+    let first = lines::fields_at(s, 0, keys::IMPORT, 2);
     let v = first.values;
     let fields = first.next;
     let Next::At(second) = lines::line_end(s, fields) else {

@@ -12,42 +12,42 @@ use lib.Seq.{take-at, length-take-le}
 use Rattle.exact.proofs.Parts.{by-test}
 use Rattle.text.specs.Text.{bytes}
 use Rattle.lines.specs.Cut.{behind}
-use Rattle.lines.specs.Pieces.{restAfter, firstPiece, isSome}
+use Rattle.lines.specs.Pieces.{PIECE, restAfter, firstPiece, isSome}
 use Rattle.intake.specs.declared.Intake.{Intake}
-use Rattle.intake.specs.Intake.{kept, after, keptOf, placed, hasRoom, afterAll, rowAll, atFirst}
+use Rattle.intake.specs.Intake.{kept, after, keptOf, placed, hasRoom, afterAll, storeAll, atFirst}
 use Rattle.intake.proofs.Step.{Step, first, later, copied, closed, passed, cut, told, step, counted}
-use Rattle.intake.proofs.Row.{Same, one-more, no-room, placed-length}
+use Rattle.intake.proofs.Store.{Same, one-more, no-room, placed-length}
 use Rattle.intake.proofs.Pieces.{behindIn, firstIn, behind-is, first-is}
 
--- ---- a text in two parts: the second goes on where the first left the row and the state
+-- ---- a text in two parts: the second goes on where the first left the store and the state
 
-pub parts : (a b : List ℕ) (row : List ℕ) (i : Intake) → Same row i (a ++ b) (rowAll row i a) (afterAll row i a) b
-unfolding afterAll rowAll
-parts [] b row i = (refl, refl)
-parts (x ∷ a) b row i =
-    let room = leb-true (i .n + 3) (length row) in
-    by-test (hasRoom row i) (λ t. Same row i ((x ∷ a) ++ b) (rowAll row i (x ∷ a)) (afterAll row i (x ∷ a)) b)
+pub parts : (a b : List ℕ) (store : List ℕ) (i : Intake) → Same store i (a ++ b) (storeAll store i a) (afterAll store i a) b
+unfolding afterAll storeAll
+parts [] b store i = (refl, refl)
+parts (x ∷ a) b store i =
+    let room = leb-true (i .n + 3) (length store) in
+    by-test (hasRoom store i) (λ t. Same store i ((x ∷ a) ++ b) (storeAll store i (x ∷ a)) (afterAll store i (x ∷ a)) b)
     (λ e.
-    let p = one-more row i x (a ++ b) (room e) in
-    let q = one-more row i x a (room e) in
-    rw (p .0, p .1, q .0, q .1) (parts a b (placed row (i .n) (kept i x)) (after i x)))
-    (λ e. rw e (no-room row i b (leb-false (i .n + 3) (length row) e)))
+    let p = one-more store i x (a ++ b) (room e) in
+    let q = one-more store i x a (room e) in
+    rw (p .0, p .1, q .0, q .1) (parts a b (placed store (i .n) (kept i x)) (after i x)))
+    (λ e. rw e (no-room store i b (leb-false (i .n + 3) (length store) e)))
 
--- ---- a row of 16,387 bytes for each piece, and four, has room for all that is kept
+-- ---- a store of 16,387 bytes for each piece, and four, has room for all that is kept
 
-record Fits (row : List ℕ) (i : Intake) : Type 0 where
-  total : i .n + i .left * 16387 + 4 ≤ length row + i .run
-  enough : i .run ≤ 16384
+record Fits (store : List ℕ) (i : Intake) : Type 0 where
+  total : i .n + i .left * 16387 + 4 ≤ length store + i .run
+  enough : i .run ≤ PIECE
   last : i .left ≡ 0 → i .run ≤ 1
 
-fits-room : (row : List ℕ) (i : Intake) → Fits row i → i .n + 3 ≤ length row
-fits-room row i f =
-    by-test (eqb (i .left) 0) (λ t. i .n + 3 ≤ length row)
+fits-room : (store : List ℕ) (i : Intake) → Fits store i → i .n + 3 ≤ length store
+fits-room store i f =
+    by-test (eqb (i .left) 0) (λ t. i .n + 3 ≤ length store)
     (λ e. let l = f .last (eqb-true (i .left) 0 e) in let z = eqb-true (i .left) 0 e in omega arith)
     (λ e. let z = eqb-false (i .left) 0 e in omega arith)
 
-fits-next : (row other : List ℕ) (i : Intake) (b : ℕ) → length other ≡ length row → Fits row i → Fits other (after i b)
-fits-next row other i b same f = go (step i b)
+fits-next : (store other : List ℕ) (i : Intake) (b : ℕ) → length other ≡ length store → Fits store i → Fits other (after i b)
+fits-next store other i b same f = go (step i b)
   where
     go : {k : List ℕ} {j : Intake} → Step i b k j → Fits other j
     go (first l r) = record { total = omega arith; enough = omega arith; last = λ z. omega arith }
@@ -57,38 +57,38 @@ fits-next row other i b same f = go (step i b)
     go (passed l r e) = record { total = omega arith; enough = omega arith; last = λ z. absurd (l z) }
     go (cut l r e) = record { total = omega arith; enough = omega arith; last = λ z. omega arith }
 
-take-placed : (row k : List ℕ) (n : ℕ) → n ≤ length row → take (n + length k) (placed row n k) ≡ take n row ++ k
-take-placed row k n h =
-    let e = length-append (take n row) k in
-    let f = length-take-le n row h in
-    rw (← append-assoc (take n row) k (drop (n + length k) row)) (take-at (take n row ++ k) (drop (n + length k) row) (n + length k) (omega arith))
+take-placed : (store k : List ℕ) (n : ℕ) → n ≤ length store → take (n + length k) (placed store n k) ≡ take n store ++ k
+take-placed store k n h =
+    let e = length-append (take n store) k in
+    let f = length-take-le n store h in
+    rw (← append-assoc (take n store) k (drop (n + length k) store)) (take-at (take n store ++ k) (drop (n + length k) store) (n + length k) (omega arith))
 
-room-from : (s row : List ℕ) (i : Intake) → Fits row i
-    → (afterAll row i s .n ≡ i .n + length (keptOf i s)) × (take (i .n + length (keptOf i s)) (rowAll row i s) ≡ take (i .n) row ++ keptOf i s)
-unfolding afterAll rowAll keptOf
-room-from [] row i f = (sym (add-zero (i .n)), rw (add-zero (i .n)) (sym (append-nil (take (i .n) row))))
-room-from (b ∷ t) row i f =
-    let room = fits-room row i f in
+room-from : (s store : List ℕ) (i : Intake) → Fits store i
+    → (afterAll store i s .n ≡ i .n + length (keptOf i s)) × (take (i .n + length (keptOf i s)) (storeAll store i s) ≡ take (i .n) store ++ keptOf i s)
+unfolding afterAll storeAll keptOf
+room-from [] store i f = (sym (add-zero (i .n)), rw (add-zero (i .n)) (sym (append-nil (take (i .n) store))))
+room-from (b ∷ t) store i f =
+    let room = fits-room store i f in
     let k = kept i b in
-    let next = placed row (i .n) k in
+    let next = placed store (i .n) k in
     let rest = keptOf (after i b) t in
-    let m = one-more row i b t room in
-    let h = room-from t next (after i b) (fits-next row next i b (placed-length row i b room) f) in
+    let m = one-more store i b t room in
+    let h = room-from t next (after i b) (fits-next store next i b (placed-length store i b room) f) in
     let c = counted i b in
     let a = length-append k rest in
     let e : i .n + length (k ++ rest) ≡ after i b .n + length rest = omega arith in
-    let g : take (after i b .n) next ≡ take (i .n) row ++ k = rw c (take-placed row k (i .n) (omega arith)) in
-    rw (m .0, m .1, e) (h .0, h .1 ∙ ap (λ (l : List ℕ). l ++ rest) g ∙ append-assoc (take (i .n) row) k rest)
+    let g : take (after i b .n) next ≡ take (i .n) store ++ k = rw c (take-placed store k (i .n) (omega arith)) in
+    rw (m .0, m .1, e) (h .0, h .1 ∙ ap (λ (l : List ℕ). l ++ rest) g ∙ append-assoc (take (i .n) store) k rest)
 
-module _ (row s : List ℕ) (pieces : ℕ) (long : pieces * 16387 + 4 ≤ length row) where
-  begun : Fits row (atFirst pieces)
+module _ (store s : List ℕ) (pieces : ℕ) (long : pieces * 16387 + 4 ≤ length store) where
+  begun : Fits store (atFirst pieces)
   begun = record { total = omega arith; enough = omega arith; last = λ z. omega arith }
 
-  pub room-count : afterAll row (atFirst pieces) s .n ≡ length (keptOf (atFirst pieces) s)
-  room-count = rw zero-add at (room-from s row (atFirst pieces) begun .0)
+  pub room-count : afterAll store (atFirst pieces) s .n ≡ length (keptOf (atFirst pieces) s)
+  room-count = rw zero-add at (room-from s store (atFirst pieces) begun .0)
 
-  pub room-row : take (afterAll row (atFirst pieces) s .n) (rowAll row (atFirst pieces) s) ≡ keptOf (atFirst pieces) s
-  room-row = rw room-count (rw zero-add at (room-from s row (atFirst pieces) begun .1))
+  pub room-store : take (afterAll store (atFirst pieces) s .n) (storeAll store (atFirst pieces) s) ≡ keptOf (atFirst pieces) s
+  room-store = rw room-count (rw zero-add at (room-from s store (atFirst pieces) begun .1))
 
 -- ---- what is kept does not depend on how much was kept before
 
@@ -122,14 +122,14 @@ never : {A : Type 0} (i : Intake) (p : ℕ) → i .left ≡ suc p → i .left �
 never i p e f = let z : ⊥ = omega arith in absurd z
 
 -- `begins` says that a line begins where the next kept byte will stand: in a piece that is cut short it may differ
-behind-kept : (s : List ℕ) (p : ℕ) (i : Intake) (begins : Bool) → i .left ≡ suc p → (i .run < 16384 → begins ≡ i .start)
+behind-kept : (s : List ℕ) (p : ℕ) (i : Intake) (begins : Bool) → i .left ≡ suc p → (i .run < PIECE → begins ≡ i .start)
     → behindIn begins (keptOf i s) ≡ keptOf (atFirst p) (behindIn (i .start) s)
 unfolding keptOf behindIn
 behind-kept [] p i begins left same = refl
 behind-kept (b ∷ t) p i begins left same = go (step i b) (λ j start. behind-kept t p j start)
   where
     go : {k : List ℕ} {j : Intake} → Step i b k j
-        → ((j : Intake) (start : Bool) → j .left ≡ suc p → (j .run < 16384 → start ≡ j .start)
+        → ((j : Intake) (start : Bool) → j .left ≡ suc p → (j .run < PIECE → start ≡ j .start)
         → behindIn start (keptOf j t) ≡ keptOf (atFirst p) (behindIn (j .start) t))
         → behindIn begins (k ++ keptOf j t) ≡ keptOf (atFirst p) (behindIn (i .start) (b ∷ t))
     go (first l r) more = never i p left l
@@ -157,27 +157,27 @@ rests (suc k) pieces s h =
 
 pub data FirstKept (got text : List ℕ) : Type 0 where
   short : firstPiece got ≡ firstPiece text → FirstKept got text
-  long : take 16384 got ≡ take 16384 text → FirstKept got text
+  long : take PIECE got ≡ take PIECE text → FirstKept got text
 
 data Kept (n : ℕ) (start : Bool) (got text : List ℕ) : Type 0 where
   whole : firstIn start got ≡ firstIn start text → Kept n start got text
   front : take n got ≡ take n text → Kept n start got text
 
-first-kept : (s : List ℕ) (p : ℕ) (i : Intake) → i .left ≡ suc p → Kept (16384 - i .run) (i .start) (keptOf i s) s
+first-kept : (s : List ℕ) (p : ℕ) (i : Intake) → i .left ≡ suc p → Kept (PIECE - i .run) (i .start) (keptOf i s) s
 unfolding keptOf firstIn
 first-kept [] p i left = whole refl
 first-kept (b ∷ t) p i left = go (step i b) (λ j. first-kept t p j)
   where
-    none : {got text : List ℕ} → 16384 ≤ i .run → Kept (16384 - i .run) (i .start) got text
-    none r = front (let e : 16384 - i .run ≡ 0 = omega arith in rw e)
+    none : {got text : List ℕ} → PIECE ≤ i .run → Kept (PIECE - i .run) (i .start) got text
+    none r = front (let e : PIECE - i .run ≡ 0 = omega arith in rw e)
 
-    on : {got text : List ℕ} → i .run < 16384 → (i .start && eqb b 10) ≡ false → Kept (16384 - (i .run + 1)) (eqb b 10) got text
-        → Kept (16384 - i .run) (i .start) (b ∷ got) (b ∷ text)
+    on : {got text : List ℕ} → i .run < PIECE → (i .start && eqb b 10) ≡ false → Kept (PIECE - (i .run + 1)) (eqb b 10) got text
+        → Kept (PIECE - i .run) (i .start) (b ∷ got) (b ∷ text)
     on r e (whole h) = whole (rw (e, h))
-    on r e (front h) = front (let q : 16384 - i .run ≡ suc (16384 - (i .run + 1)) = omega arith in rw (q, h))
+    on r e (front h) = front (let q : PIECE - i .run ≡ suc (PIECE - (i .run + 1)) = omega arith in rw (q, h))
 
-    go : {k : List ℕ} {j : Intake} → Step i b k j → ((j : Intake) → j .left ≡ suc p → Kept (16384 - j .run) (j .start) (keptOf j t) t)
-        → Kept (16384 - i .run) (i .start) (k ++ keptOf j t) (b ∷ t)
+    go : {k : List ℕ} {j : Intake} → Step i b k j → ((j : Intake) → j .left ≡ suc p → Kept (PIECE - j .run) (j .start) (keptOf j t) t)
+        → Kept (PIECE - i .run) (i .start) (k ++ keptOf j t) (b ∷ t)
     go (first l r) more = never i p left l
     go (later l r) more = never i p left l
     go (copied l r e) more = on r e (more _ left)
@@ -188,7 +188,7 @@ first-kept (b ∷ t) p i left = go (step i b) (λ j. first-kept t p j)
 pub first-piece : (p : ℕ) (s : List ℕ) → FirstKept (keptOf (atFirst (suc p)) s) s
 first-piece p s = go (first-kept s p (atFirst (suc p)) refl)
   where
-    go : Kept 16384 true (keptOf (atFirst (suc p)) s) s → FirstKept (keptOf (atFirst (suc p)) s) s
+    go : Kept PIECE true (keptOf (atFirst (suc p)) s) s → FirstKept (keptOf (atFirst (suc p)) s) s
     go (whole h) = short (rw (first-is (keptOf (atFirst (suc p)) s), first-is s) h)
     go (front h) = long h
 

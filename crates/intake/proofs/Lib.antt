@@ -1,6 +1,6 @@
 -- Laws of what is kept of a text, byte by byte and piece by piece.
 pub mod Step
-pub mod Row
+pub mod Store
 pub mod Pieces
 pub mod Kept
 pub mod Taken

@@ -10,22 +10,23 @@ use lib.Dec.{eqb, ltb}
 use lib.ListN.{length, take}
 use lib.Seq.{sets, sets-eq}
 use Rattle.exact.proofs.Parts.{by-test}
+use Rattle.lines.specs.Pieces.{PIECE}
 use Rattle.intake.specs.declared.Intake.{Intake}
-use Rattle.intake.specs.Intake.{closing, kept, after, placed}
+use Rattle.intake.specs.Intake.{closesPiece, kept, after, placed}
 
 pub data Step (i : Intake) (b : ℕ) : List ℕ → Intake → Type 0 where
   -- behind the last piece
   first : i .left ≡ 0 → i .run ≡ 0 → Step i b (b ∷ []) (record { n = i .n + 1; run = 1; start = i .start; left = 0 })
   later : i .left ≡ 0 → (i .run ≡ 0 → ⊥) → Step i b [] (record { n = i .n + 0; run = 1; start = i .start; left = 0 })
   -- in a piece of which there is room for more
-  copied : (i .left ≡ 0 → ⊥) → i .run < 16384 → closing i b ≡ false
+  copied : (i .left ≡ 0 → ⊥) → i .run < PIECE → closesPiece i b ≡ false
       → Step i b (b ∷ []) (record { n = i .n + 1; run = i .run + 1; start = eqb b 10; left = i .left })
-  closed : (i .left ≡ 0 → ⊥) → i .run < 16384 → closing i b ≡ true
+  closed : (i .left ≡ 0 → ⊥) → i .run < PIECE → closesPiece i b ≡ true
       → Step i b (b ∷ []) (record { n = i .n + 1; run = 0; start = true; left = i .left - 1 })
   -- in a piece of which enough is kept
-  passed : (i .left ≡ 0 → ⊥) → 16384 ≤ i .run → closing i b ≡ false
+  passed : (i .left ≡ 0 → ⊥) → PIECE ≤ i .run → closesPiece i b ≡ false
       → Step i b [] (record { n = i .n + 0; run = i .run; start = eqb b 10; left = i .left })
-  cut : (i .left ≡ 0 → ⊥) → 16384 ≤ i .run → closing i b ≡ true
+  cut : (i .left ≡ 0 → ⊥) → PIECE ≤ i .run → closesPiece i b ≡ true
       → Step i b (120 ∷ 10 ∷ 10 ∷ []) (record { n = i .n + 3; run = 0; start = true; left = i .left - 1 })
 
 pub add-two : (n : ℕ) → n + 2 ≡ suc (suc n)
@@ -36,10 +37,10 @@ module _ (i : Intake) (b : ℕ) where
   unfolding after kept
   told (first l r) = rw (eq-eqb (i .left) 0 l, eq-eqb (i .run) 0 r) (refl, refl)
   told (later l r) = rw (eq-eqb (i .left) 0 l, ne-eqb (i .run) 0 r) (refl, refl)
-  told (copied l r e) = rw (ne-eqb (i .left) 0 l, lt-ltb (i .run) 16384 r, e) (refl, refl)
-  told (closed l r e) = rw (ne-eqb (i .left) 0 l, lt-ltb (i .run) 16384 r, e) (refl, refl)
-  told (passed l r e) = rw (ne-eqb (i .left) 0 l, le-ltb (i .run) 16384 r, e) (refl, refl)
-  told (cut l r e) = rw (ne-eqb (i .left) 0 l, le-ltb (i .run) 16384 r, e) (refl, refl)
+  told (copied l r e) = rw (ne-eqb (i .left) 0 l, lt-ltb (i .run) PIECE r, e) (refl, refl)
+  told (closed l r e) = rw (ne-eqb (i .left) 0 l, lt-ltb (i .run) PIECE r, e) (refl, refl)
+  told (passed l r e) = rw (ne-eqb (i .left) 0 l, le-ltb (i .run) PIECE r, e) (refl, refl)
+  told (cut l r e) = rw (ne-eqb (i .left) 0 l, le-ltb (i .run) PIECE r, e) (refl, refl)
 
   -- every byte is taken in in one of these ways
   abbrev Taken : Type 0
@@ -56,9 +57,9 @@ module _ (i : Intake) (b : ℕ) where
       (λ r. so (first (eqb-true _ _ l) (eqb-true _ _ r)))
       (λ r. so (later (eqb-true _ _ l) (eqb-false _ _ r))))
       (λ l.
-      by-test (ltb (i .run) 16384) (λ t. Taken)
-      (λ r. by-test (closing i b) (λ t. Taken) (λ e. so (closed (eqb-false _ _ l) (ltb-true _ _ r) e)) (λ e. so (copied (eqb-false _ _ l) (ltb-true _ _ r) e)))
-      (λ r. by-test (closing i b) (λ t. Taken) (λ e. so (cut (eqb-false _ _ l) (ltb-false _ _ r) e)) (λ e. so (passed (eqb-false _ _ l) (ltb-false _ _ r) e))))
+      by-test (ltb (i .run) PIECE) (λ t. Taken)
+      (λ r. by-test (closesPiece i b) (λ t. Taken) (λ e. so (closed (eqb-false _ _ l) (ltb-true _ _ r) e)) (λ e. so (copied (eqb-false _ _ l) (ltb-true _ _ r) e)))
+      (λ r. by-test (closesPiece i b) (λ t. Taken) (λ e. so (cut (eqb-false _ _ l) (ltb-false _ _ r) e)) (λ e. so (passed (eqb-false _ _ l) (ltb-false _ _ r) e))))
 
   -- what is kept is counted, and is no more than three bytes
   pub counted : after i b .n ≡ i .n + length (kept i b)
@@ -83,16 +84,16 @@ module _ (i : Intake) (b : ℕ) where
       go (passed l r e) = omega arith
       go (cut l r e) = omega arith
 
-  -- the code's stores are the bytes that are kept, placed in the row
-  module _ (row : List ℕ) (room : i .n + 3 ≤ length row) where
-    pub stepped : {k : List ℕ} {j : Intake} → Step i b k j → (j ≡ after i b) × (sets row (i .n) k ≡ placed row (i .n) (kept i b))
+  -- the code's stores are the bytes that are kept, placed in the store
+  module _ (store : List ℕ) (room : i .n + 3 ≤ length store) where
+    pub stepped : {k : List ℕ} {j : Intake} → Step i b k j → (j ≡ after i b) × (sets store (i .n) k ≡ placed store (i .n) (kept i b))
     stepped {k} s =
         let e = told s in
         let f = few in
         let g : length (kept i b) ≡ length k = ap length (e .1) in
-        (sym (e .0), rw (e .1) (sets-eq k row (i .n) (omega arith) ∙ append-assoc (take (i .n) row) k _))
+        (sym (e .0), rw (e .1) (sets-eq k store (i .n) (omega arith) ∙ append-assoc (take (i .n) store) k _))
 
     -- where nothing is kept, no store is made
     pub unmoved : {run left : ℕ} {start : Bool} → Step i b [] (record { n = i .n + 0; run = run; start = start; left = left })
-        → (record { n = i .n; run = run; start = start; left = left } ≡ after i b) × (row ≡ placed row (i .n) (kept i b))
+        → (record { n = i .n; run = run; start = start; left = left } ≡ after i b) × (store ≡ placed store (i .n) (kept i b))
     unmoved s = rw add-zero at (stepped s)

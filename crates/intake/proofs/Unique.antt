@@ -1,4 +1,4 @@
--- No two different replies satisfy the contract of a public function that reads no input, and no two different last states of its row.
+-- No two different replies satisfy the contract of a public function that reads no input, and no two different last states of its store.
 use Rattle.exact.proofs.Unique.{one, OneReply, OneState}
 use Rattle.intake.proofs.at_first.Reads as at-first
 use Rattle.intake.proofs.keep.Reads as keep
@@ -9,6 +9,6 @@ one-at-first κ a r s u v p q = one r s p q
 pub one-keep : OneReply keep.Post
 one-keep κ a r s u v p q = one r s (p .0) (q .0)
 
--- the row is the first parameter
-pub one-row : OneState (λ κ e. e .0 .now) keep.Post
-one-row κ a r s u v p q = one _ _ (p .1) (q .1)
+-- the store is the first parameter
+pub one-store : OneState (λ κ e. e .0 .now) keep.Post
+one-store κ a r s u v p q = one _ _ (p .1) (q .1)

@@ -7,11 +7,13 @@ use Prim.Native.Nat.{ℕ, _+_, _-_}
 use lib.Dec.{ltb, leb, eqb}
 use lib.ListN.{length, take, drop}
 use Rattle.exact.specs.Choice.{if_then_else_}
+use Rattle.lines.specs.Pieces.{PIECE}
+use Rattle.text.specs.Text.{LF, bytes}
 use Rattle.intake.specs.declared.Intake.{Intake}
 
 -- an empty line closes a piece
-abbrev pub closing : Intake → ℕ → Bool
-closing i b = i .start && eqb b 10
+abbrev pub closesPiece : Intake → ℕ → Bool
+closesPiece i b = i .start && eqb b LF
 
 -- what is kept of the next byte. A piece that is cut short gets an `x`: the LF behind it ends the line that was cut, and the next LF is its
 -- empty line
@@ -19,7 +21,7 @@ unfoldable pub kept : Intake → ℕ → List ℕ
 kept i b =
     if eqb (i .left) 0
     then (if eqb (i .run) 0 then b ∷ [] else [])
-    else (if ltb (i .run) 16384 then b ∷ [] else (if closing i b then 120 ∷ 10 ∷ 10 ∷ [] else []))
+    else (if ltb (i .run) PIECE then b ∷ [] else (if closesPiece i b then bytes "x\n\n" else []))
 
 -- how far the text is then taken in
 unfoldable pub after : Intake → ℕ → Intake
@@ -28,37 +30,37 @@ after i b =
     if eqb (i .left) 0
     then record { n = n; run = 1; start = i .start; left = 0 }
     else
-    (if closing i b
+    (if closesPiece i b
     then record { n = n; run = 0; start = true; left = i .left - 1 }
-    else record { n = n; run = (if ltb (i .run) 16384 then i .run + 1 else i .run); start = eqb b 10; left = i .left })
+    else record { n = n; run = (if ltb (i .run) PIECE then i .run + 1 else i .run); start = eqb b LF; left = i .left })
 
 -- what is kept of a whole text
 unfoldable pub keptOf : Intake → List ℕ → List ℕ
 keptOf i [] = []
 keptOf i (b ∷ t) = kept i b ++ keptOf (after i b) t
 
--- ---- into a lent row: bytes at a place of it, where there is room for them
+-- ---- into a lent store: bytes at a place of it, where there is room for them
 
 abbrev pub placed : List ℕ → ℕ → List ℕ → List ℕ
-placed row n bytes = take n row ++ (bytes ++ drop (n + length bytes) row)
+placed store n bytes = take n store ++ (bytes ++ drop (n + length bytes) store)
 
 abbrev pub hasRoom : List ℕ → Intake → Bool
-hasRoom row i = leb (i .n + 3) (length row)
+hasRoom store i = leb (i .n + 3) (length store)
 
 unfoldable pub afterAll : List ℕ → Intake → List ℕ → Intake
-afterAll row i [] = i
-afterAll row i (b ∷ t) = if hasRoom row i then afterAll row (after i b) t else i
+afterAll store i [] = i
+afterAll store i (b ∷ t) = if hasRoom store i then afterAll store (after i b) t else i
 
-unfoldable pub rowAll : List ℕ → Intake → List ℕ → List ℕ
-rowAll row i [] = row
-rowAll row i (b ∷ t) = if hasRoom row i then rowAll (placed row (i .n) (kept i b)) (after i b) t else row
+unfoldable pub storeAll : List ℕ → Intake → List ℕ → List ℕ
+storeAll store i [] = store
+storeAll store i (b ∷ t) = if hasRoom store i then storeAll (placed store (i .n) (kept i b)) (after i b) t else store
 
 -- a text of `pieces` at its beginning
 abbrev pub atFirst : ℕ → Intake
 atFirst pieces = record { n = 0; run = 0; start = true; left = pieces }
 
--- some text was taken in from its beginning: the row holds what is kept of it, and so many bytes are
-pub record TakenIn (row : List ℕ) (pieces : ℕ) (last : List ℕ) (count : ℕ) : Type 0 where
+-- some text was taken in from its beginning: the store holds what is kept of it, and so many bytes are
+pub record TakenIn (store : List ℕ) (pieces : ℕ) (last : List ℕ) (count : ℕ) : Type 0 where
   pub text : List ℕ
-  pub counted : count ≡ afterAll row (atFirst pieces) text .n
-  pub holds : last ≡ rowAll row (atFirst pieces) text
+  pub counted : count ≡ afterAll store (atFirst pieces) text .n
+  pub holds : last ≡ storeAll store (atFirst pieces) text

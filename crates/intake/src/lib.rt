@@ -4,11 +4,17 @@ ghost use mathlib.Core.Bool.{true};
 ghost use Prim.Native.Nat.{_+_, _-_, _≤_};
 ghost use lib.ListN.{length};
 ghost use Rattle.io.specs.Counts.{Counts};
-ghost use Rattle.intake.specs.Intake.{after, kept, placed, afterAll, rowAll, atFirst, TakenIn};
+ghost use Rattle.lines.specs.Pieces.{PIECE};
+ghost use Rattle.intake.specs.Intake.{after, kept, placed, afterAll, storeAll, atFirst, TakenIn};
 use libc::STDIN_FILENO;
 
+// A day is a header and 24 blocks. Of each piece at most lines::PIECE bytes and three more are kept, and a byte of what follows.
+pub const PIECES: usize = 25;
+
+pub const DAY: usize = PIECES * (lines::PIECE + 3) + 5;
+
 // How far a text is taken in: `n` bytes are kept, `run` of them of this piece, a line begins here or not, and `left` pieces are
-// still to close. `run` goes no further than 16,384; behind the last piece it is 1 once a byte was kept.
+// still to close. `run` goes no further than lines::PIECE; behind the last piece it is 1 once a byte was kept.
 pub struct Intake {
     pub n: usize,
     pub run: usize,
@@ -42,16 +48,16 @@ fn closed_at(n: usize, left: usize) -> Intake
 }
 
 // Behind the last piece one byte is kept: it tells that the text goes on.
-fn surplus(row: &mut [u8], i: Intake, b: u8) -> Intake
-    requires { ⌜ (i .n + 3 ≤ length (now row)) × (i .left ≡ 0) ⌝ }
+fn surplus(store: &mut [u8], i: Intake, b: u8) -> Intake
+    requires { ⌜ (i .n + 3 ≤ length (now store)) × (i .left ≡ 0) ⌝ }
     ensures state { λ r. ⌜ r ≡ after i b ⌝ }
-    ensures row { λ r. ⌜ now (row .exit) ≡ placed (now (row .entry)) (i .n) (kept i b) ⌝ }
+    ensures store { λ r. ⌜ now (store .exit) ≡ placed (now (store .entry)) (i .n) (kept i b) ⌝ }
 {
     let n = i.n;
     let run = i.run;
     let start = i.start;
     if run == 0 {
-        row[n] = b;
+        store[n] = b;
         return Intake {
             n: n + 1,
             run: 1,
@@ -69,19 +75,19 @@ fn surplus(row: &mut [u8], i: Intake, b: u8) -> Intake
 
 // Of a piece of which enough is kept only its empty line still is, behind an `x`: the first line feed ends the line that was cut, the
 // second is the empty line.
-fn pass(row: &mut [u8], i: Intake, b: u8) -> Intake
-    requires { ⌜ (i .n + 3 ≤ length (now row)) × (i .left ≡ 0 → ⊥) × (16384 ≤ i .run) ⌝ }
+fn pass(store: &mut [u8], i: Intake, b: u8) -> Intake
+    requires { ⌜ (i .n + 3 ≤ length (now store)) × (i .left ≡ 0 → ⊥) × (PIECE ≤ i .run) ⌝ }
     ensures state { λ r. ⌜ r ≡ after i b ⌝ }
-    ensures row { λ r. ⌜ now (row .exit) ≡ placed (now (row .entry)) (i .n) (kept i b) ⌝ }
+    ensures store { λ r. ⌜ now (store .exit) ≡ placed (now (store .entry)) (i .n) (kept i b) ⌝ }
 {
     let n = i.n;
     let run = i.run;
     let start = i.start;
     let left = i.left;
     if start & (b == 10) {
-        row[n] = 120;
-        row[n + 1] = 10;
-        row[n + 2] = 10;
+        store[n] = 120;
+        store[n + 1] = 10;
+        store[n + 2] = 10;
         return closed_at(n + 3, left);
     }
     Intake {
@@ -93,22 +99,22 @@ fn pass(row: &mut [u8], i: Intake, b: u8) -> Intake
 }
 
 // Takes in one byte.
-fn next(row: &mut [u8], i: Intake, b: u8) -> Intake
-    requires { ⌜ i .n + 3 ≤ length (now row) ⌝ }
+fn next(store: &mut [u8], i: Intake, b: u8) -> Intake
+    requires { ⌜ i .n + 3 ≤ length (now store) ⌝ }
     ensures state { λ r. ⌜ r ≡ after i b ⌝ }
-    ensures row { λ r. ⌜ now (row .exit) ≡ placed (now (row .entry)) (i .n) (kept i b) ⌝ }
+    ensures store { λ r. ⌜ now (store .exit) ≡ placed (now (store .entry)) (i .n) (kept i b) ⌝ }
 {
     let n = i.n;
     let run = i.run;
     let start = i.start;
     let left = i.left;
     if left == 0 {
-        return surplus(row, i, b);
+        return surplus(store, i, b);
     }
-    if 16384 <= run {
-        return pass(row, i, b);
+    if lines::PIECE <= run {
+        return pass(store, i, b);
     }
-    row[n] = b;
+    store[n] = b;
     let feed = b == 10;
     if start & feed {
         return closed_at(n + 1, left);
@@ -121,15 +127,15 @@ fn next(row: &mut [u8], i: Intake, b: u8) -> Intake
     }
 }
 
-// Takes in what was read of a text, as far as the row has room.
-pub fn keep(row: &mut [u8], i: Intake, bytes: &[u8]) -> Intake
-    ensures state { λ r. ⌜ r ≡ afterAll (now (row .entry)) i (now (bytes .entry)) ⌝ }
-    ensures row { λ r. ⌜ now (row .exit) ≡ rowAll (now (row .entry)) i (now (bytes .entry)) ⌝ }
+// Takes in what was read of a text, as far as the store has room.
+pub fn keep(store: &mut [u8], i: Intake, bytes: &[u8]) -> Intake
+    ensures state { λ r. ⌜ r ≡ afterAll (now (store .entry)) i (now (bytes .entry)) ⌝ }
+    ensures store { λ r. ⌜ now (store .exit) ≡ storeAll (now (store .entry)) i (now (bytes .entry)) ⌝ }
 {
-    if row.len() < 3 {
+    if store.len() < 3 {
         return i;
     }
-    let last = row.len() - 3;
+    let last = store.len() - 3;
     let mut state = i;
     let mut at: usize = 0;
     while at < bytes.len() {
@@ -138,18 +144,18 @@ pub fn keep(row: &mut [u8], i: Intake, bytes: &[u8]) -> Intake
             return state;
         }
         let b = bytes[at];
-        state = next(row, state, b);
+        state = next(store, state, b);
         at += 1;
     }
     state
 }
 
-// Takes in standard input to its end, or until no further byte can matter; answers how many bytes of the row are kept. Which bytes a
-// read brings cannot be said: the row is what some text leaves, the reads one behind the other. Nothing says that an input ends, so the
+// Takes in standard input to its end, or until no further byte can matter; answers how many bytes of the store are kept. Which bytes a
+// read brings cannot be said: the store is what some text leaves, the reads one behind the other. Nothing says that an input ends, so the
 // turns are counted down from a number that no run uses up.
-pub fn take_in(row: &mut [u8], pieces: usize) -> usize
-    ensures within { λ r. ⌜ Counts r (now (row .exit)) ⌝ }
-    ensures taken { λ r. ⌜ TakenIn (now (row .entry)) pieces (now (row .exit)) r ⌝ }
+pub fn take_in(store: &mut [u8], pieces: usize) -> usize
+    ensures within { λ r. ⌜ Counts r (now (store .exit)) ⌝ }
+    ensures taken { λ r. ⌜ TakenIn (now (store .entry)) pieces (now (store .exit)) r ⌝ }
 {
     let mut chunk = io::large_buffer();
     let mut i = at_first(pieces);
@@ -160,7 +166,7 @@ pub fn take_in(row: &mut [u8], pieces: usize) -> usize
             return i.n;
         }
         let n = io::count(got, &chunk);
-        i = keep(row, i, &chunk[..n]);
+        i = keep(store, i, &chunk[..n]);
         if i.left == 0 {
             if i.run != 0 {
                 return i.n;

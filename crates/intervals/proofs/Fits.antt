@@ -1,43 +1,50 @@
--- The task that an interval in range asks has figures in range.
-use mathlib.Core.Path.{_≡_, subst}
-use mathlib.Core.Bool.{true, false}
-use Prim.Native.Nat.{ℕ}
+-- What the intervals of an hour in form and in range ask, the walk can take.
+use mathlib.Core.Path.{_≡_, refl, sym, _∙_, ap, subst}
+use mathlib.Core.Bool.{Bool, true, false}
+use mathlib.Core.List.{List}
+use Prim.Native.Nat.{ℕ, _+_, _<_, _≤_}
 use native.Mathlib.Omega.{arith}
-use Rattle.exact.specs.Choice.{if_then_else_}
-use Rattle.exact.proofs.Parts.{by-test}
+use lib.ListN.{set, replicate, length-set}
+use Rattle.exact.proofs.Apart.{impossible}
 use Rattle.exact.proofs.Range.{within-zero}
+use Rattle.tariff.specs.declared.Check.{Check}
+use Rattle.tariff.specs.declared.Check.the-variants.{Derate}
+use Rattle.tariff.specs.declared.Curve.{Curve}
 use Rattle.tariff.specs.declared.DayAhead.{DayAhead}
+use Rattle.tariff.specs.declared.Found.{Found}
+use Rattle.tariff.specs.declared.Found.the-variants.{Nothing, Fault}
+use Rattle.tariff.specs.declared.Hour.{Hour}
 use Rattle.tariff.specs.declared.Interval.{Interval}
-use Rattle.tariff.specs.Sheet.{aheadInRange, intervalInRange}
-use Rattle.tariff.specs.Eligible.{lags}
+use Rattle.tariff.specs.Sheet.{aheadInRange, curveInRange, intervalInRange}
 use Rattle.tariff.specs.Derate.{exceedsRoom}
-use Rattle.tariff.proofs.Ranges.{interval-fits}
+use Rattle.tariff.specs.Contributions.{curveIn}
+use Rattle.tariff.specs.Reply.{clear, placeOf}
+use Rattle.tariff.specs.Hour.{form, range, interval, outcomeAt}
+use Rattle.tariff.proofs.Ranges.{interval-fits, form-says, range-says}
 use Rattle.tariff.proofs.Limits.{limit-within, capped-within}
 use Rattle.tariff.proofs.Others.{others-within}
 use Rattle.tariff.proofs.Reduced.{reduced-within}
 use Rattle.intervals.specs.declared.steps.Task.{Task}
-use Rattle.intervals.specs.declared.steps.Prepared.the-variants.{Exceeds, Ready}
-use Rattle.intervals.specs.Task.{idleTask, taskOf, preparedOf, Fitting}
+use Rattle.intervals.specs.declared.steps.Walked.{Walked}
+use Rattle.intervals.specs.Task.{idleTask, readyTask, taskOf, asked, TasksOf, ofTask, outcomesOf, Fitting, Walkable}
+use Rattle.intervals.specs.Walk.{WalkedTo}
+use Rattle.intervals.proofs.Tasks.{task-cases, idle-outcome, task-outcome}
+use Rattle.intervals.proofs.Walks.{by-entry, repeated, walked-alike}
 
-idle-fits : Fitting idleTask
-idle-fits =
+idle-fits : (stop : Found) → Fitting (idleTask stop)
+idle-fits stop =
     record {
       from = within-zero 2000000;
       limit = within-zero 2000000;
       pen = within-zero 1000000;
       s = within-zero 900;
+      beside = within-zero 4000000000000000;
       others = within-zero 40000000000000000;
     }
 
-ready-fits : (x t : Task) → Fitting x → Ready x ≡ Ready t → Fitting t
-ready-fits x t f e = let same : x ≡ t = cc in subst Fitting same f
-
-no-task : (t : Task) → Exceeds ≡ Ready t → ⊥
-no-task t e = let z : _≡_ {A = ℕ} 0 1 = cc in omega arith
-
 module _ (a : DayAhead) (v : Interval) (ea : aheadInRange a ≡ true) (ev : intervalInRange v ≡ true) where
-  task-fits : exceedsRoom a v ≡ false → Fitting (taskOf a v)
-  task-fits e =
+  ready-fits : exceedsRoom a v ≡ false → Fitting (readyTask a v)
+  ready-fits e =
       let g = interval-fits v ev in
       let close = reduced-within a v ea ev e in
       record {
@@ -45,17 +52,75 @@ module _ (a : DayAhead) (v : Interval) (ea : aheadInRange a ≡ true) (ev : inte
         limit = limit-within 2000000 (close 0 (omega arith)) (g .en) (g .eop) (capped-within (g .en) (g .ae) (g .co));
         pen = g .pen;
         s = g .s;
+        beside = within-zero 4000000000000000;
         others = others-within a v ea ev close;
       }
 
-  pub prepared-fits : (t : Task) → preparedOf a v ≡ Ready t → Fitting t
-  unfolding preparedOf
-  prepared-fits t =
-      by-test (lags v)
-      (λ b. (if b then Ready idleTask else (if exceedsRoom a v then Exceeds else Ready (taskOf a v))) ≡ Ready t → Fitting t)
-      (λ _ q. ready-fits idleTask t idle-fits q)
-      (λ _.
-      by-test (exceedsRoom a v)
-      (λ b. (if b then Exceeds else Ready (taskOf a v)) ≡ Ready t → Fitting t)
-      (λ _ q. absurd (no-task t q))
-      (λ e q. ready-fits (taskOf a v) t (task-fits e) q))
+  task-fits : (place : ℕ) → Fitting (taskOf a v place)
+  task-fits place = task-cases Fitting a v place (λ _. idle-fits Nothing) (λ _ _. idle-fits (Fault (Derate place))) (λ _. ready-fits)
+
+-- a task is stopped at its own place
+task-placed : (a : DayAhead) (v : Interval) (place : ℕ) (check : Check) → taskOf a v place .stop ≡ Fault check → placeOf check ≡ place
+task-placed a v place check =
+    task-cases (λ t. t .stop ≡ Fault check → placeOf check ≡ place) a v place
+    (λ _ e. impossible cc)
+    (λ _ _ e. let same : Derate place ≡ check = cc in ap placeOf (sym same))
+    (λ _ _ e. impossible cc)
+
+-- ---- the tasks of an hour, one after the other
+
+pub tasks-begin : {task : ℕ → Task} {t : Task} → TasksOf task 0 (replicate 30 t)
+tasks-begin = record { long = refl; each = λ i u. absurd (omega arith) }
+
+pub tasks-next : {task : ℕ → Task} {i : ℕ} {tasks : List Task} → TasksOf task i tasks → i < 30 → {t : Task} → t ≡ task i → TasksOf task (i + 1) (set tasks i t)
+tasks-next {task} {i} {tasks} o u {t} e =
+    record {
+      long = length-set tasks i t ∙ o .long;
+      each =
+          by-entry tasks i t (idleTask Nothing) (let l = o .long in omega arith) (λ k x. k < i + 1 → x ≡ task k) (λ _. e)
+          (λ k n v. o .each k (omega arith));
+    }
+
+-- nothing is asked of an excluded hour
+pub tasks-idle : (n : ℕ) {t : Task} → t ≡ idleTask Nothing → TasksOf (λ i. idleTask Nothing) n (replicate 30 t)
+tasks-idle n e =
+    subst (λ (t : Task). TasksOf (λ i. idleTask Nothing) n (replicate 30 t)) (sym e) (record { long = refl; each = λ i u. repeated 30 i (idleTask Nothing) })
+
+-- both curves keep a property, so the one that is taken does
+either : (P : Curve → Type 0) (lower : Bool) {da rt : Curve} → P da → P rt → P (curveIn lower da rt)
+either P true x y = x
+either P false x y = y
+
+module _ (h : Hour) (ok : (form h ≡ clear) × (range h ≡ clear)) where
+  pub in-range : {i : ℕ} → i < h .n → (aheadInRange (h .ahead) ≡ true) × (intervalInRange (interval h i) ≡ true)
+  in-range {i} u = let r = range-says h (ok .1) in (r .1, r .4 i u)
+
+  asked-fits : (isExcluded : Bool) (i : ℕ) → i < h .n → Fitting (asked h isExcluded i)
+  asked-fits true i u = idle-fits Nothing
+  asked-fits false i u = task-fits (h .ahead) (interval h i) (in-range u .0) (in-range u .1) (i + 1)
+
+  asked-placed : (isExcluded : Bool) (i : ℕ) (check : Check) → asked h isExcluded i .stop ≡ Fault check → placeOf check ≡ i + 1
+  asked-placed true i check e = impossible cc
+  asked-placed false i check e = task-placed (h .ahead) (interval h i) (i + 1) check e
+
+  pub tasks-walkable : (isExcluded : Bool) {tasks : List Task} → TasksOf (asked h isExcluded) (h .n) tasks → Walkable tasks (h .n) (h .da) (h .rt)
+  tasks-walkable isExcluded t =
+      let n = form-says h (ok .0) in
+      let r = range-says h (ok .1) in
+      record {
+        few = n .2;
+        fits = λ i u. rw (t .each i u) (asked-fits isExcluded i u);
+        placed = λ i u check e. asked-placed isExcluded i check (ap (λ (x : Task). x .stop) (sym (t .each i u)) ∙ e);
+        steps = λ lower. either (λ c. c .n ≤ 12) lower (n .0) (n .1);
+        inRange = λ lower. either (λ c. curveInRange c ≡ true) lower (r .2) (r .3);
+      }
+
+-- what the walk makes of them is what the intervals come to
+asked-outcome : (h : Hour) (isExcluded : Bool) (i : ℕ) → ofTask (h .da) (h .rt) (asked h isExcluded i) ≡ outcomeAt h isExcluded i
+unfolding outcomeAt
+asked-outcome h true i = sym (idle-outcome (h .da) (h .rt))
+asked-outcome h false i = sym (task-outcome h (interval h i) (i + 1))
+
+pub tasks-walked : (h : Hour) (isExcluded : Bool) {tasks : List Task} → TasksOf (asked h isExcluded) (h .n) tasks → {r : Walked}
+    → WalkedTo (outcomesOf (h .da) (h .rt) tasks) (h .n) r → WalkedTo (outcomeAt h isExcluded) (h .n) r
+tasks-walked h isExcluded t = walked-alike (λ i u. ap (ofTask (h .da) (h .rt)) (t .each i u) ∙ asked-outcome h isExcluded i)

@@ -1,6 +1,5 @@
 -- No two different replies satisfy the contract of a public function.
 use mathlib.Core.Path.{_≡_, refl, ap, _∙_}
-use mathlib.Core.Bool.{Bool}
 use Prim.Native.Nat.{ℕ, _<_}
 use native.Mathlib.Decide.{decLt}
 use native.Mathlib.Omega.{arith}
@@ -9,28 +8,28 @@ use lib.Seq.{ext-getD}
 use Rattle.exact.proofs.Unique.{one, OneReply}
 use Rattle.tariff.specs.declared.Found.{Found}
 use Rattle.tariff.specs.declared.Found.the-variants.{Nothing, Fault}
-use Rattle.tariff.specs.declared.Hour.{Hour}
-use Rattle.tariff.specs.declared.Expected.{Expected}
 use Rattle.tariff.specs.Units.{grains}
-use Rattle.tariff.specs.Reply.{shown, clear}
+use Rattle.tariff.specs.Reply.{Verdict, shown, clear}
+use Rattle.tariff.specs.Outcome.{Outcome}
+use Rattle.tariff.specs.Hour.{blockFault, outcomeAt}
 use Rattle.tariff.proofs.Demands.{one-finding}
-use Rattle.tariff.proofs.Imports.{one-worth}
+use Rattle.tariff.proofs.Answers.{one-worth}
 use Rattle.intervals.specs.declared.Contributions.{Contributions}
-use Rattle.intervals.specs.Walk.{grainsAt, ContributionsOf}
+use Rattle.intervals.specs.Walk.{grainsAt, ContributionsBy}
 use Rattle.intervals.proofs.work_out.Reads as work-out
 use Rattle.intervals.proofs.import_part.Reads as import-part
 
-module _ (h : Hour) (isExcluded : Bool) (expected : Expected) (r s : Contributions)
-    (of : ContributionsOf h isExcluded expected r) (like : ContributionsOf h isExcluded expected s) where
+module _ (block : Verdict) (outcome : ℕ → Outcome) (n : ℕ) (r s : Contributions)
+    (of : ContributionsBy block outcome n r) (like : ContributionsBy block outcome n s) where
   same-found : r .found ≡ s .found
   same-found = one-finding (r .found) (s .found) _ (of .found) (like .found)
 
   -- nothing is found: the same entries, in front and behind, and the same sum
   module _ (p : shown (r .found) ≡ clear) (q : shown (s .found) ≡ clear) where
     same-entry : (i : ℕ) → grainsAt (r .parts) i ≡ grainsAt (s .parts) i
-    same-entry i = go (decLt i (h .n))
+    same-entry i = go (decLt i n)
       where
-        go : Dec (i < h .n) → grainsAt (r .parts) i ≡ grainsAt (s .parts) i
+        go : Dec (i < n) → grainsAt (r .parts) i ≡ grainsAt (s .parts) i
         go (yes u) = one _ _ (of .written p i u) (like .written q i u)
         go (no u) = one _ _ (of .rest p i (omega arith)) (like .rest q i (omega arith))
 
@@ -51,7 +50,7 @@ module _ (h : Hour) (isExcluded : Bool) (expected : Expected) (r s : Contributio
       go (Fault check) e = one r s (of .refused check (same-found ∙ e)) (like .refused check e)
 
 pub one-work-out : OneReply work-out.Post
-one-work-out κ a r s u v p q = one-contributions (a .0) (a .1 .0) (a .1 .1 .0) r s p q
+one-work-out κ a r s u v p q = one-contributions (blockFault (a .0) (a .1 .1 .0)) (outcomeAt (a .0) (a .1 .0)) (a .0 .n) r s p q
 
 pub one-import-part : OneReply import-part.Post
 one-import-part κ a r s u v p q = one-worth r s _ p q

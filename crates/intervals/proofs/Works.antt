@@ -1,7 +1,6 @@
 -- What checks 1 to 7 find and the intervals come to, by the way that the work ends.
 use mathlib.Core.Path.{_≡_, refl, sym, ap, _∙_}
-use mathlib.Core.Bool.{Bool}
-use Prim.Native.Nat.{_≤_}
+use Prim.Native.Nat.{ℕ, _≤_}
 use Rattle.exact.specs.Whole.{sumTo}
 use Rattle.exact.proofs.Sums.{sum-same}
 use Rattle.tariff.specs.declared.Check.{Check}
@@ -9,13 +8,14 @@ use Rattle.tariff.specs.declared.Found.the-variants.{Nothing, Fault}
 use Rattle.tariff.specs.declared.Grains.{Grains}
 use Rattle.tariff.specs.declared.Hour.{Hour}
 use Rattle.tariff.specs.declared.Expected.{Expected}
-use Rattle.tariff.specs.Reply.{shown, clear, _then_}
-use Rattle.tariff.specs.Hour.{form, range, order, curves, secondsSum, blockFault, intervals, contribution, hourSum}
+use Rattle.tariff.specs.Outcome.{Outcome, firstStop, amount, sumBy}
+use Rattle.tariff.specs.Reply.{Verdict, shown, clear, _then_}
+use Rattle.tariff.specs.Hour.{form, range, order, curves, secondsSum, blockFault}
 use Rattle.tariff.proofs.Checks.{never-clear, then-clear}
 use Rattle.tariff.proofs.Ranges.{form-says}
 use Rattle.intervals.specs.declared.steps.Walked.{Walked}
 use Rattle.intervals.specs.declared.Contributions.{Contributions}
-use Rattle.intervals.specs.Walk.{grainsAt, WalkedTo, refusedBy, ContributionsOf}
+use Rattle.intervals.specs.Walk.{grainsAt, WalkedTo, refusedBy, ContributionsBy}
 
 -- without faults 1 to 5 the counts and the numbers are in their ranges
 pub no-fault-says : (h : Hour) (expected : Expected) → blockFault h expected ≡ clear → (form h ≡ clear) × (range h ≡ clear) × (h .n ≤ 30)
@@ -24,9 +24,9 @@ no-fault-says h expected e =
     let p = then-clear (form h) (range h then later) e in
     (p .0, then-clear (range h) later (p .1) .0, form-says h (p .0) .2)
 
-module _ (h : Hour) (isExcluded : Bool) (expected : Expected) where
-  refused : (r : Contributions) (check : Check) → r ≡ refusedBy (Fault check) → (blockFault h expected then intervals h isExcluded) ≡ shown (Fault check)
-      → ContributionsOf h isExcluded expected r
+module _ {block : Verdict} {outcome : ℕ → Outcome} {n : ℕ} where
+  refused : (r : Contributions) (check : Check) → r ≡ refusedBy (Fault check) → (block then firstStop outcome n) ≡ shown (Fault check)
+      → ContributionsBy block outcome n r
   refused r check f e =
       rw f
       record {
@@ -39,27 +39,26 @@ module _ (h : Hour) (isExcluded : Bool) (expected : Expected) where
         refused = λ other q. ap refusedBy q;
       }
 
-  pub refused-by-block : (r : Contributions) (check : Check) → r ≡ refusedBy (Fault check) → blockFault h expected ≡ shown (Fault check)
-      → ContributionsOf h isExcluded expected r
+  pub refused-by-block : (r : Contributions) (check : Check) → r ≡ refusedBy (Fault check) → block ≡ shown (Fault check) → ContributionsBy block outcome n r
   refused-by-block r check f b = refused r check f (rw b)
 
-  module _ (b : blockFault h expected ≡ clear) where
-    pub refused-by-walk : (r : Contributions) (check : Check) → r ≡ refusedBy (Fault check) → intervals h isExcluded ≡ shown (Fault check)
-        → ContributionsOf h isExcluded expected r
+  module _ (b : block ≡ clear) where
+    pub refused-by-walk : (r : Contributions) (check : Check) → r ≡ refusedBy (Fault check) → firstStop outcome n ≡ shown (Fault check)
+        → ContributionsBy block outcome n r
     refused-by-walk r check f w = refused r check f (rw (b, w))
 
     -- the walk found nothing: its parts, and their sum
-    pub worked-out : (w : Walked) → WalkedTo h isExcluded w → w .found ≡ Nothing → (sum : Grains) → sum .0 ≡ sumTo (grainsAt (w .parts)) (h .n)
-        → ContributionsOf h isExcluded expected (record { found = Nothing; parts = w .parts; sum = sum })
-    unfolding hourSum
-    worked-out w of f sum s =
+    pub worked-out : n ≤ 30 → (w : Walked) → WalkedTo outcome n w → w .found ≡ Nothing → (sum : Grains) → sum .0 ≡ sumTo (grainsAt (w .parts)) n
+        → ContributionsBy block outcome n (record { found = Nothing; parts = w .parts; sum = sum })
+    unfolding sumBy
+    worked-out few w of f sum s =
         let clean : shown (w .found) ≡ clear = ap shown f in
         record {
           found = rw (b, ← of .first, f);
           long = of .long;
-          few = λ q. no-fault-says h expected b .2;
+          few = λ q. few;
           written = λ q. of .written clean;
           rest = λ q. of .rest clean;
-          sum = λ q. s ∙ sum-same (grainsAt (w .parts)) (contribution h isExcluded) (h .n) (of .written clean);
+          sum = λ q. s ∙ sum-same (grainsAt (w .parts)) (λ i. amount (outcome i)) n (of .written clean);
           refused = λ check q. absurd (never-clear (sym (ap shown q)));
         }

@@ -1,58 +1,84 @@
--- An interval as the walk takes it: a stretch of one curve to price, and what to make of its cost.
-use mathlib.Core.Bool.{Bool, true}
+-- What an interval asks of the walk: a stretch of one curve to price, and what to make of its cost.
+use mathlib.Core.Path.{_≡_}
+use mathlib.Core.Bool.{Bool, true, false}
+use mathlib.Core.List.{List}
+use Prim.Native.Nat.{ℕ, _+_, _<_, _≤_}
+use lib.ListN.{length, getD}
 use lib.IntN.{ℤ, pos, _+ℤ_, _-ℤ_, _*ℤ_}
 use lib.Signed.{ltZ}
 use Rattle.exact.specs.Choice.{if_then_else_}
 use Rattle.exact.specs.Whole.{minℤ, maxℤ, span, Within}
+use Rattle.tariff.specs.declared.Check.{Check}
+use Rattle.tariff.specs.declared.Check.the-variants.{Derate}
 use Rattle.tariff.specs.declared.Curve.{Curve}
 use Rattle.tariff.specs.declared.DayAhead.{DayAhead}
+use Rattle.tariff.specs.declared.Found.{Found}
+use Rattle.tariff.specs.declared.Found.the-variants.{Nothing, Fault}
+use Rattle.tariff.specs.declared.Hour.{Hour}
 use Rattle.tariff.specs.declared.Interval.{Interval}
 use Rattle.tariff.specs.Units.{kw, price, seconds, grains, grainsOf}
 use Rattle.tariff.specs.Curve.{Amount, known, none, change, quote, sumUp}
 use Rattle.tariff.specs.Eligible.{lags}
 use Rattle.tariff.specs.Derate.{exceedsRoom, reduced}
-use Rattle.tariff.specs.Contributions.{isLower, limitOf, cappedOf, otherThanEnergy}
-use Rattle.tariff.specs.Hour.{Outcome, gives, derated, unreached}
+use Rattle.tariff.specs.Contributions.{curveIn, lowerIn, limitIn, otherThanEnergy}
+use Rattle.tariff.specs.Sheet.{curveInRange}
+use Rattle.tariff.specs.Reply.{REACH, numberOf, placeOf}
+use Rattle.tariff.specs.Hour.{interval}
+use Rattle.tariff.specs.Outcome.{Outcome, gives, stops}
 use Rattle.intervals.specs.declared.steps.Task.{Task}
 use Rattle.intervals.specs.declared.steps.Run.{Run}
-use Rattle.intervals.specs.declared.steps.Prepared.{Prepared}
-use Rattle.intervals.specs.declared.steps.Prepared.the-variants.{Exceeds, Ready}
 
--- nothing to price and nothing to add: what a lagging interval asks
-abbrev pub idleTask : Task
-idleTask =
+-- nothing to price and nothing to add: what a lagging interval asks, and one that a check stops
+abbrev pub idleTask : Found → Task
+idleTask stop =
     record {
-      lower = true;
+      stop = stop;
+      lower = false;
       from = kw (pos 0);
       limit = kw (pos 0);
       pen = price (pos 0);
       s = seconds (pos 0);
+      beside = grains (pos 0);
       others = grains (pos 0);
     }
 
-abbrev pub taskOf : DayAhead → Interval → Task
-taskOf a v =
+-- a generator counts nothing beside its energy inside the cap
+abbrev pub readyTask : DayAhead → Interval → Task
+readyTask a v =
     record {
-      lower = isLower (reduced a v 0) (v .en .0);
+      stop = Nothing;
+      lower = lowerIn a v;
       from = kw (reduced a v 0);
-      limit = kw (limitOf (reduced a v 0) (v .en .0) (v .eop .0) (cappedOf v));
+      limit = kw (limitIn a v);
       pen = v .pen;
       s = v .s;
+      beside = grains (pos 0);
       others = grains (otherThanEnergy a v);
     }
 
-unfoldable pub preparedOf : DayAhead → Interval → Prepared
-preparedOf a v = if lags v then Ready idleTask else (if exceedsRoom a v then Exceeds else Ready (taskOf a v))
+-- a lagging interval asks nothing, and one whose reduction exceeds the room is stopped at its place
+unfoldable pub taskOf : DayAhead → Interval → (place : ℕ) → Task
+taskOf a v place = if lags v then idleTask Nothing else (if exceedsRoom a v then idleTask (Fault (Derate place)) else readyTask a v)
 
--- the stretch of a task, upward, and its curve
+-- task i, from 0
+abbrev pub taskAt : List Task → ℕ → Task
+taskAt tasks i = getD tasks i (idleTask Nothing)
+
+-- what interval i of an hour asks, from 0: of an excluded hour nothing
+abbrev pub asked : Hour → Bool → ℕ → Task
+asked h isExcluded i = if isExcluded then idleTask Nothing else taskOf (h .ahead) (interval h i) (i + 1)
+
+-- the first n tasks
+pub record TasksOf (task : ℕ → Task) (n : ℕ) (tasks : List Task) : Type 0 where
+  pub long : length tasks ≡ 30
+  pub each : (i : ℕ) → i < n → taskAt tasks i ≡ task i
+
+-- the stretch of a task, upward
 abbrev pub lowOf : Task → ℤ
 lowOf t = minℤ (t .from .0) (t .limit .0)
 
 abbrev pub highOf : Task → ℤ
 highOf t = maxℤ (t .from .0) (t .limit .0)
-
-abbrev pub curveOf : Bool → Curve → Curve → Curve
-curveOf lower da rt = if lower then da else rt
 
 -- the stretch as it is scanned, upward: from its lowest kilowatt on, and on at a step's price p to its end e, or to `high` where that
 -- comes first
@@ -73,20 +99,27 @@ costUp c low high s = change (λ z. z *ℤ s) (sumUp (quote c) low (span low hig
 abbrev pub signedCost : Task → ℤ → ℤ
 signedCost t cost = if ltZ (t .limit .0) (t .from .0) then pos 0 -ℤ cost else cost
 
--- (D - limit) × pen × s and the cost from D to the limit; an upper branch takes only a loss
+-- (D - limit) × pen × s, the cost from D to the limit, and what is counted beside them; an upper branch takes only a loss
 abbrev pub energyPart : Task → ℤ → ℤ
-energyPart t cost = grainsOf (t .from .0 -ℤ t .limit .0) (t .pen .0) (t .s .0) +ℤ signedCost t cost
+energyPart t cost = grainsOf (t .from .0 -ℤ t .limit .0) (t .pen .0) (t .s .0) +ℤ signedCost t cost +ℤ t .beside .0
 
 unfoldable pub finished : Task → ℤ → ℤ
 finished t cost = (if t .lower then energyPart t cost else minℤ (energyPart t cost) (pos 0)) +ℤ t .others .0
 
 abbrev pub ofCost : Task → Amount → Outcome
 ofCost t (known cost) = gives (finished t cost)
-ofCost t none = unreached
+ofCost t none = stops REACH
 
-abbrev pub ofPrepared : Curve → Curve → Prepared → Outcome
-ofPrepared da rt Exceeds = derated
-ofPrepared da rt (Ready t) = ofCost t (costUp (curveOf (t .lower) da rt) (lowOf t) (highOf t) (t .s .0))
+-- a task that a check stops is not priced
+abbrev pub unlessStopped : Found → Outcome → Outcome
+unlessStopped Nothing outcome = outcome
+unlessStopped (Fault check) outcome = stops (numberOf check)
+
+abbrev pub ofTask : (da rt : Curve) → Task → Outcome
+ofTask da rt t = unlessStopped (t .stop) (ofCost t (costUp (curveIn (t .lower) da rt) (lowOf t) (highOf t) (t .s .0)))
+
+abbrev pub outcomesOf : (da rt : Curve) → List Task → ℕ → Outcome
+outcomesOf da rt tasks i = ofTask da rt (taskAt tasks i)
 
 -- what a task's figures keep within
 pub record Fitting (t : Task) : Type 0 where
@@ -94,4 +127,13 @@ pub record Fitting (t : Task) : Type 0 where
   pub limit : Within 2000000 (t .limit .0)
   pub pen : Within 1000000 (t .pen .0)
   pub s : Within 900 (t .s .0)
+  pub beside : Within 4000000000000000 (t .beside .0)
   pub others : Within 40000000000000000 (t .others .0)
+
+-- what the walk can take: the figures fit, a task is stopped at its own place, from 1, and the curves are in form and in range
+pub record Walkable (tasks : List Task) (n : ℕ) (da rt : Curve) : Type 0 where
+  pub few : n ≤ 30
+  pub fits : (i : ℕ) → i < n → Fitting (taskAt tasks i)
+  pub placed : (i : ℕ) → i < n → (check : Check) → taskAt tasks i .stop ≡ Fault check → placeOf check ≡ i + 1
+  pub steps : (lower : Bool) → curveIn lower da rt .n ≤ 12
+  pub inRange : (lower : Bool) → curveInRange (curveIn lower da rt) ≡ true

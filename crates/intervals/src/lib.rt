@@ -3,11 +3,8 @@
 ghost use mathlib.Core.Path.{_≡_};
 ghost use Prim.Native.Nat.{_≤_};
 ghost use Rattle.exact.specs.Whole.{sumTo};
-ghost use Rattle.tariff.specs.Reply.{clear};
-ghost use Rattle.tariff.specs.Hour.{form, range};
-ghost use Rattle.tariff.specs.Import.{worthTold, importPart};
-ghost use Rattle.intervals.specs.Walk.{grainsAt, WalkedTo, Bounded, refusedBy, ContributionsOf};
-use steps::Walked;
+ghost use Rattle.tariff.specs.Import.{importFault, importPart, worthBy, worthTold};
+ghost use Rattle.intervals.specs.Walk.{grainsAt, Bounded, refusedBy, ContributionsOf};
 use tariff::Expected;
 use tariff::Found;
 use tariff::Grains;
@@ -17,6 +14,7 @@ use tariff::Worth;
 
 mod curtailed;
 mod others;
+mod prepare;
 mod steps;
 mod sums;
 mod walk;
@@ -43,20 +41,6 @@ fn sum_of(parts: [Grains; 30], n: usize) -> Grains
     sum
 }
 
-// An excluded hour asks checks 6 and 7 of no interval, and each contributes nothing.
-fn walk_unless(h: Hour, excluded: bool) -> Walked
-    requires { ⌜ (form h ≡ clear) × (range h ≡ clear) ⌝ }
-    ensures { λ r. ⌜ WalkedTo h excluded r ⌝ }
-{
-    if excluded {
-        return Walked {
-            found: Found::Nothing,
-            parts: [Grains(0); 30],
-        };
-    }
-    walk::walk_hour(h)
-}
-
 // What a refused hour comes to: nothing.
 fn refused_by(found: Found) -> Contributions
     ensures { λ r. ⌜ r ≡ refusedBy found ⌝ }
@@ -76,7 +60,8 @@ pub fn work_out(h: Hour, excluded: bool, expected: Expected) -> Contributions
     if let Found::Fault(check) = fault {
         return refused_by(Found::Fault(check));
     }
-    let w = walk_unless(h, excluded);
+    let tasks = prepare::tasks_of(h, excluded);
+    let w = walk::walk(tasks, h.n, h.da, h.rt);
     let found = w.found;
     if let Found::Fault(check) = found {
         return refused_by(Found::Fault(check));
@@ -93,7 +78,7 @@ pub fn work_out(h: Hour, excluded: bool, expected: Expected) -> Contributions
 
 // What an import's block gives to its day: the sum of its counting intervals, or 0 where that is below 0.
 pub fn import_part(h: ImportHour, cts: i64, k: usize) -> Worth
-    ensures { λ r. ⌜ worthTold r ≡ importPart cts h k ⌝ }
+    ensures { λ r. ⌜ worthTold r ≡ worthBy (importFault h k) (importPart cts h) ⌝ }
 {
     let fault = checks::import_fault(h, k);
     if let Found::Fault(check) = fault {

@@ -1,20 +1,31 @@
--- The one table of keys, in the order in which the lines print them. A key's number is its place here.
+-- The one table of keys, by kinds of lines and in the order in which the lines print them. A key's number is its place here.
+use mathlib.Core.Path.{_≡_, refl}
+use mathlib.Core.Bool.{Bool}
 use mathlib.Core.List.{List, [], _∷_, _++_}
-use Prim.Native.Nat.{ℕ}
-use lib.ListN.{getD}
+use Prim.Native.Nat.{ℕ, _+_}
+use lib.Dec.{eqb}
+use lib.ListN.{getD, length}
 use Rattle.text.specs.Text.{bytes}
 
--- line 1 of an hour block: keys 0 to 9
+-- ---- an hour block
+
+-- line 1
 abbrev pub aheadKeys : List (List ℕ)
 aheadKeys =
     bytes "hour=" ∷ bytes " en=" ∷ bytes " reg=" ∷ bytes " r1=" ∷ bytes " r2=" ∷ bytes " r3="
     ∷ bytes " breg=" ∷ bytes " b1=" ∷ bytes " b2=" ∷ bytes " b3=" ∷ []
 
--- lines 2 and 3: keys 10 and 11, and 12 and 13; the pairs of both: keys 14 and 15
-abbrev pub curveKeys : List (List ℕ)
-curveKeys = bytes "da=" ∷ bytes " n=" ∷ bytes "rt=" ∷ bytes " n=" ∷ bytes " to=" ∷ bytes " at=" ∷ []
+-- lines 2 and 3, and the pairs of both
+abbrev pub daKeys : List (List ℕ)
+daKeys = bytes "da=" ∷ bytes " n=" ∷ []
 
--- an interval line: its time and energy, keys 16 to 23; reserves, keys 24 to 29; regulation, keys 30 to 35
+abbrev pub rtKeys : List (List ℕ)
+rtKeys = bytes "rt=" ∷ bytes " n=" ∷ []
+
+abbrev pub pairKeys : List (List ℕ)
+pairKeys = bytes " to=" ∷ bytes " at=" ∷ []
+
+-- an interval line: its time and energy, its reserves, and its regulation
 abbrev pub energyKeys : List (List ℕ)
 energyKeys =
     bytes "s=" ∷ bytes " en=" ∷ bytes " ae=" ∷ bytes " co=" ∷ bytes " eop=" ∷ bytes " pen=" ∷ bytes " lim=" ∷ bytes " uol=" ∷ []
@@ -25,24 +36,140 @@ reserveKeys = bytes " r1=" ∷ bytes " r2=" ∷ bytes " r3=" ∷ bytes " p1=" �
 abbrev pub regulationKeys : List (List ℕ)
 regulationKeys = bytes " reg=" ∷ bytes " preg=" ∷ bytes " breg=" ∷ bytes " mv=" ∷ bytes " pmv=" ∷ bytes " bmv=" ∷ []
 
--- an import's first line: keys 36 and 37; line 1 of its blocks: keys 38 to 40
-abbrev pub importKeys : List (List ℕ)
-importKeys = bytes "import=" ∷ bytes " cts=" ∷ bytes "hour=" ∷ bytes " den=" ∷ bytes " dec=" ∷ []
+-- ---- an import: its first line, line 1 of its blocks, and their interval lines
 
--- the interval lines of an import's block: keys 41 to 47
+abbrev pub importKeys : List (List ℕ)
+importKeys = bytes "import=" ∷ bytes " cts=" ∷ []
+
+abbrev pub importHourKeys : List (List ℕ)
+importHourKeys = bytes "hour=" ∷ bytes " den=" ∷ bytes " dec=" ∷ []
+
 abbrev pub curtailedKeys : List (List ℕ)
 curtailedKeys =
     bytes "s=" ∷ bytes " cut=" ∷ bytes " prof=" ∷ bytes " rten=" ∷ bytes " lbmp=" ∷ bytes " bid=" ∷ bytes " def=" ∷ []
 
--- a day's header: keys 48 to 57, the last seven in front of rows of marks
+-- ---- a day's header, a key to a line: three numbers, and seven rows of digits
+
 abbrev pub headerKeys : List (List ℕ)
 headerKeys =
     bytes "form=" ∷ bytes "unit=" ∷ bytes "rtc="
     ∷ bytes "cat=" ∷ bytes "x1=" ∷ bytes "x2=" ∷ bytes "x3=" ∷ bytes "x4=" ∷ bytes "x5=" ∷ bytes "x6=" ∷ []
 
+-- ---- the table
+
 abbrev pub keys : List (List ℕ)
-keys = aheadKeys ++ curveKeys ++ energyKeys ++ reserveKeys ++ regulationKeys ++ importKeys ++ curtailedKeys ++ headerKeys
+keys =
+    aheadKeys ++ daKeys ++ rtKeys ++ pairKeys ++ energyKeys ++ reserveKeys ++ regulationKeys
+    ++ importKeys ++ importHourKeys ++ curtailedKeys ++ headerKeys
 
 -- key k. A number past the table's has the empty key
 abbrev pub keyOf : ℕ → List ℕ
 keyOf k = getD keys k []
+
+-- ---- the number of the first key of each kind of line, by which definitions and code speak of it
+
+abbrev pub AHEAD : ℕ
+AHEAD = 0
+
+abbrev pub DA : ℕ
+DA = 10
+
+abbrev pub RT : ℕ
+RT = 12
+
+abbrev pub PAIR : ℕ
+PAIR = 14
+
+abbrev pub INTERVAL : ℕ
+INTERVAL = 16
+
+abbrev pub RESERVES : ℕ
+RESERVES = 24
+
+abbrev pub REGULATION : ℕ
+REGULATION = 30
+
+abbrev pub IMPORT : ℕ
+IMPORT = 36
+
+abbrev pub IMPORT-HOUR : ℕ
+IMPORT-HOUR = 38
+
+abbrev pub CURTAILED : ℕ
+CURTAILED = 41
+
+abbrev pub HEADER : ℕ
+HEADER = 48
+
+-- the key of each of its lines
+abbrev pub FORM-LINE : ℕ
+FORM-LINE = 48
+
+abbrev pub UNIT-LINE : ℕ
+UNIT-LINE = 49
+
+abbrev pub RTC-LINE : ℕ
+RTC-LINE = 50
+
+abbrev pub CAT-LINE : ℕ
+CAT-LINE = 51
+
+abbrev pub X1-LINE : ℕ
+X1-LINE = 52
+
+abbrev pub X2-LINE : ℕ
+X2-LINE = 53
+
+abbrev pub X3-LINE : ℕ
+X3-LINE = 54
+
+abbrev pub X4-LINE : ℕ
+X4-LINE = 55
+
+abbrev pub X5-LINE : ℕ
+X5-LINE = 56
+
+abbrev pub X6-LINE : ℕ
+X6-LINE = 57
+
+its-lines : (keyOf FORM-LINE ≡ bytes "form=")
+    × (keyOf UNIT-LINE ≡ bytes "unit=")
+    × (keyOf RTC-LINE ≡ bytes "rtc=")
+    × (keyOf CAT-LINE ≡ bytes "cat=")
+    × (keyOf X1-LINE ≡ bytes "x1=")
+    × (keyOf X2-LINE ≡ bytes "x2=")
+    × (keyOf X3-LINE ≡ bytes "x3=")
+    × (keyOf X4-LINE ≡ bytes "x4=")
+    × (keyOf X5-LINE ≡ bytes "x5=")
+    × (keyOf X6-LINE ≡ bytes "x6=")
+its-lines = (refl, refl, refl, refl, refl, refl, refl, refl, refl, refl)
+
+-- the count of all keys
+abbrev pub KEYS : ℕ
+KEYS = 58
+
+-- each follows the keys of the kind before it
+places : (DA ≡ AHEAD + length aheadKeys)
+    × (RT ≡ DA + length daKeys)
+    × (PAIR ≡ RT + length rtKeys)
+    × (INTERVAL ≡ PAIR + length pairKeys)
+    × (RESERVES ≡ INTERVAL + length energyKeys)
+    × (REGULATION ≡ RESERVES + length reserveKeys)
+    × (IMPORT ≡ REGULATION + length regulationKeys)
+    × (IMPORT-HOUR ≡ IMPORT + length importKeys)
+    × (CURTAILED ≡ IMPORT-HOUR + length importHourKeys)
+    × (HEADER ≡ CURTAILED + length curtailedKeys)
+    × (KEYS ≡ HEADER + length headerKeys)
+    × (KEYS ≡ length keys)
+places = (refl, refl, refl, refl, refl, refl, refl, refl, refl, refl, refl, refl)
+
+-- ---- the one key whose number may be missing, as a minus alone
+
+abbrev pub UOL : ℕ
+UOL = 23
+
+its-key : keyOf UOL ≡ bytes " uol="
+its-key = refl
+
+abbrev pub mayMiss : ℕ → Bool
+mayMiss k = eqb k UOL

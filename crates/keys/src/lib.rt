@@ -6,33 +6,82 @@ use text::Next;
 
 mod table;
 
+// The number of the first key of each kind of line, as specs/Keys.antt has them: line 1 of an hour block, its curve lines and their
+// pairs, and its interval lines with their reserves and regulation;
+pub const AHEAD: usize = 0;
+
+pub const DA: usize = 10;
+
+pub const RT: usize = 12;
+
+pub const PAIR: usize = 14;
+
+pub const INTERVAL: usize = 16;
+
+pub const RESERVES: usize = 24;
+
+pub const REGULATION: usize = 30;
+// the first line of an import, line 1 of its blocks, and their interval lines;
+pub const IMPORT: usize = 36;
+
+pub const IMPORT_HOUR: usize = 38;
+
+pub const CURTAILED: usize = 41;
+// and a day's header, a key to a line,
+pub const HEADER: usize = 48;
+// each of which has a name.
+pub const FORM_LINE: usize = 48;
+
+pub const UNIT_LINE: usize = 49;
+
+pub const RTC_LINE: usize = 50;
+
+pub const CAT_LINE: usize = 51;
+
+pub const X1_LINE: usize = 52;
+
+pub const X2_LINE: usize = 53;
+
+pub const X3_LINE: usize = 54;
+
+pub const X4_LINE: usize = 55;
+
+pub const X5_LINE: usize = 56;
+
+pub const X6_LINE: usize = 57;
+// The count of all keys.
+pub const KEYS: usize = 58;
+
+// The one key whose number may be missing, `uol`.
+pub const UOL: usize = 23;
+
 // Key k at a place. A number past the table's is the empty key, which stands anywhere.
 pub fn key_number(s: &[u8], at: usize, k: usize) -> Next
     ensures { λ r. ⌜ r ≡ keyAt (keyOf k) (now (s .entry)) at ⌝ }
 {
-    if k < 10 {
-        return table::ahead_key(s, at, k);
+    if k < INTERVAL {
+        if k < DA {
+            return table::ahead_key(s, at, k);
+        }
+        return table::curve_key(s, at, k - DA);
     }
-    if k < 16 {
-        return table::curve_key(s, at, k);
+    if k < RESERVES {
+        return table::energy_key(s, at, k - INTERVAL);
     }
-    if k < 24 {
-        return table::energy_key(s, at, k);
+    if k < IMPORT {
+        if k < REGULATION {
+            return table::reserve_key(s, at, k - RESERVES);
+        }
+        return table::regulation_key(s, at, k - REGULATION);
     }
-    if k < 30 {
-        return table::reserve_key(s, at, k);
+    if k < HEADER {
+        if k < CURTAILED {
+            return table::import_key(s, at, k - IMPORT);
+        }
+        return table::curtailed_key(s, at, k - CURTAILED);
     }
-    if k < 36 {
-        return table::regulation_key(s, at, k);
-    }
-    if k < 41 {
-        return table::import_key(s, at, k);
-    }
-    if k < 48 {
-        return table::curtailed_key(s, at, k);
-    }
-    if k < 58 {
-        return table::header_key(s, at, k);
+    if k < KEYS {
+        return table::header_key(s, at, k - HEADER);
     }
     Next::At(at)
 }

@@ -1,37 +1,21 @@
--- Two blocks that are the same or differ in their curve lines only are answered alike; and REACH and DERATE in an hour of a day.
+-- Two blocks that are the same or differ in their curve lines only are answered alike.
 use mathlib.Core.Path.{_≡_, refl, sym, ap, _∙_}
 use mathlib.Core.Bool.{Bool}
 use mathlib.Core.List.{List}
-use mathlib.Core.Logic.{_↔_}
-use Prim.Native.Nat.{ℕ, _+_}
-use native.Mathlib.Omega.{arith}
+use Prim.Native.Nat.{ℕ}
 use lib.IntN.{ℤ, pos}
 use lib.ListN.{replicate}
 use Rattle.tariff.specs.declared.Hour.{Hour}
 use Rattle.tariff.specs.declared.Expected.{Expected}
-use Rattle.tariff.specs.declared.Expected.the-variants.{Says}
-use Rattle.tariff.specs.Reply.{paid, refused, DERATE, REACH, clear}
-use Rattle.tariff.specs.Eligible.{excluded}
-use Rattle.tariff.specs.Demand.{FirstUnpriced, UnpricedBeforeDerate, ExceededBeforeReach, NoFaultTo4, NoFaultTo5, Extends}
-use Rattle.lines.specs.Pieces.{piece}
+use Rattle.tariff.specs.Reply.{paid}
+use Rattle.tariff.specs.Total.{Pays}
+use Rattle.tariff.specs.Demand.{Lawful, Extends}
 use Rattle.sheet.specs.Apart.{CurvesApart}
 use Rattle.blocks.specs.Block.{Block, broken, read, blockOf}
 use Rattle.sheet.specs.Settle.{replyTo}
 use Rattle.sheet.proofs.Apart.{never-read}
-use Rattle.sheet.proofs.BlockDemands.{
-  curves-apart-break-alike,
-  only-needed-prices-of-blocks-matter,
-  block-reach-exactly-when-unpriced,
-  block-refused-for-reach-exactly-when-some-kilowatt-is-unpriced,
-  block-refused-for-derate-exactly-when-some-reduction-exceeds,
-  adding-curve-to-a-block-changes-nothing,
-}
-use Rattle.header.specs.Header.{headerFault, marksOf}
-use Rattle.ledger.specs.Day.{bodyOf, dayReply}
-use Rattle.ledger.specs.Demand.{Pays, BlocksApart, same, apart, PricedAlike, one, priced}
-use Rattle.ledger.proofs.HourOfDay.{own-block}
-
--- ---- two blocks that are the same, or differ in their curve lines only
+use Rattle.sheet.proofs.BlockDemands.{curves-apart-break-alike, only-needed-prices-of-blocks-matter, adding-curve-to-a-block-changes-nothing}
+use Rattle.ledger.specs.Demand.{BlocksApart, same, apart, PricedAlike, one, priced}
 
 -- a lent row of 30 entries
 abbrev row : List ℤ
@@ -61,36 +45,17 @@ module _ (s t : List ℕ) (isExcluded : Bool) (expected : Expected) where
       go o h g x y (one e) = rw (x, y, e)
       go o h g x y (priced c d e) = only-needed-prices-of-blocks-matter s t h g isExcluded expected row o x y c d e .0
 
-  pub blocks-extended : BlocksApart s t → (h g : Hour) → blockOf s ≡ read h → blockOf t ≡ read g → (sum cents : ℤ) → NoFaultTo4 g expected
+  pub blocks-extended : BlocksApart s t → (h g : Hour) → blockOf s ≡ read h → blockOf t ≡ read g → (sum cents : ℤ) → Lawful g expected
       → Extends (h .da) (g .da) → Extends (h .rt) (g .rt) → replyTo (blockOf s) isExcluded expected 30 ≡ paid sum cents
       → replyTo (blockOf t) isExcluded expected 30 ≡ paid sum cents
   blocks-extended (same e) h g x y sum cents f da rt p = ap (λ (u : List ℕ). replyTo (blockOf u) isExcluded expected 30) (sym e) ∙ p
   blocks-extended (apart o) h g x y sum cents f da rt p = adding-curve-to-a-block-changes-nothing s t h g isExcluded expected row o x y sum cents f da rt p .0
 
   pub blocks-added : BlocksApart s t → Pays (replyTo (blockOf s) isExcluded expected 30)
-      → ((h g : Hour) → blockOf s ≡ read h → blockOf t ≡ read g → NoFaultTo4 g expected × Extends (h .da) (g .da) × Extends (h .rt) (g .rt))
+      → ((h g : Hour) → blockOf s ≡ read h → blockOf t ≡ read g → Lawful g expected × Extends (h .da) (g .da) × Extends (h .rt) (g .rt))
       → Same
   blocks-added b p longer =
       by-reading b
       (λ o h g x y.
       let l = longer h g x y in
       p .pays ∙ sym (blocks-extended b h g x y (p .sum) (p .cents) (l .0) (l .1) (l .2) (p .pays)))
-
--- ---- REACH and DERATE in an hour of a day
-
-pub day-reach : (hours : ℕ) (s : List ℕ) → headerFault hours s ≡ clear → (k i : ℕ) (h : Hour) → blockOf (piece k (bodyOf hours s)) ≡ read h
-    → (dayReply hours s k ≡ refused REACH (i + 1)) ↔ (NoFaultTo5 h (Says (pos k)) × FirstUnpriced h (excluded hours (marksOf hours s) k) i)
-day-reach hours s e k i h x =
-    rw (own-block hours s e k 30 (omega arith))
-    (block-reach-exactly-when-unpriced (piece k (bodyOf hours s)) h (excluded hours (marksOf hours s) k) (Says (pos k)) 30 i x)
-
-module _ (hours : ℕ) (s : List ℕ) (e : headerFault hours s ≡ clear) (k : ℕ) (h : Hour) (x : blockOf (piece k (bodyOf hours s)) ≡ read h) where
-  pub day-reach-some : ((place : ℕ) × (dayReply hours s k ≡ refused REACH place)) ↔ (NoFaultTo5 h (Says (pos k)) × UnpricedBeforeDerate h (excluded hours (marksOf hours s) k))
-  day-reach-some =
-      rw (own-block hours s e k 30 (omega arith))
-      (block-refused-for-reach-exactly-when-some-kilowatt-is-unpriced (piece k (bodyOf hours s)) h (excluded hours (marksOf hours s) k) (Says (pos k)) 30 x)
-
-  pub day-derate-some : ((place : ℕ) × (dayReply hours s k ≡ refused DERATE place)) ↔ (NoFaultTo5 h (Says (pos k)) × ExceededBeforeReach h (excluded hours (marksOf hours s) k))
-  day-derate-some =
-      rw (own-block hours s e k 30 (omega arith))
-      (block-refused-for-derate-exactly-when-some-reduction-exceeds (piece k (bodyOf hours s)) h (excluded hours (marksOf hours s) k) (Says (pos k)) 30 x)

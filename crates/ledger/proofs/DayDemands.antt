@@ -1,72 +1,90 @@
--- The theorems of the definitions of a day: what its hours are answered, the marks, demand 3, the total, and bounded memory.
-use mathlib.Core.Path.{_≡_}
+-- The theorems of the definitions of a day: what its hours are answered, the marks, demand 3, the total, and bounded memory. Those of a
+-- `Front` hold of every sheet's, `frontOf hours s`.
+use mathlib.Core.Path.{_≡_, refl, sym, ap, _∙_, subst}
 use mathlib.Core.Bool.{false}
-use mathlib.Core.List.{List, [], _∷_}
+use mathlib.Core.List.{List, [], _∷_, _++_}
 use mathlib.Core.Logic.{_↔_}
 use Prim.Native.Nat.{ℕ, suc, _+_, _≤_, _<_}
+use native.Mathlib.Omega.{arith}
 use lib.IntN.{ℤ, pos}
 use Rattle.exact.specs.Whole.{sumTo}
+use Rattle.exact.proofs.Parts.{true-eqZ}
 use Rattle.tariff.specs.declared.Hour.{Hour}
 use Rattle.tariff.specs.declared.Expected.the-variants.{Any, Says}
-use Rattle.tariff.specs.Reply.{paid, refused, ORDER, DERATE, REACH, clear, fault}
+use Rattle.tariff.specs.Reply.{paid, refused, ORDER, DERATE, REACH, Verdict, clear, fault, otherwise}
 use Rattle.tariff.specs.Eligible.{near, excluded}
-use Rattle.tariff.specs.Hour.{range, reply}
-use Rattle.tariff.specs.Demand.{FirstUnpriced, UnpricedBeforeDerate, ExceededBeforeReach, NoFaultTo4, NoFaultTo5, Extends}
+use Rattle.tariff.specs.Outcome.{replyBy}
+use Rattle.tariff.specs.Hour.{range, order, reply}
+use Rattle.tariff.specs.Demand.{FirstUnpriced, UnpricedBeforeDerate, ExceededBeforeReach, Lawful, WholeHour, Extends}
+use Rattle.tariff.specs.Total.{total, noTotal, totalOf, Pays, paidCents}
+use Rattle.tariff.proofs.Demands.{order-exactly-when-another-hour}
+use Rattle.tariff.proofs.Totals.{total-paid, total-refused, total-surplus}
 use Rattle.marks.specs.Alike.{AlikeBut, AlikeToX4}
-use Rattle.lines.specs.Pieces.{restAfter, piece}
+use Rattle.marks.proofs.Far.{a-mark-moves-no-further-than-two, without-rtc}
+use Rattle.lines.specs.Pieces.{restAfter, isSome, piece}
 use Rattle.intake.specs.Intake.{keptOf, atFirst}
 use Rattle.blocks.specs.Block.{blockOf, read}
 use Rattle.sheet.specs.Settle.{replyTo}
-use Rattle.header.specs.Header.{headerFault, marksOf}
-use Rattle.ledger.specs.Day.{bodyOf, dayReply, dayTotal}
-use Rattle.tariff.specs.Total.{total, none}
-use Rattle.ledger.specs.Demand.{centsIn, Pays, PricedAlike, DaysApart}
-use Rattle.ledger.proofs.HourOfDay.{hour-refused, own-block, another-hour, its-own-hour}
-use Rattle.ledger.proofs.MarksOfDay.{mark-near, marks-without-rtc}
-use Rattle.ledger.proofs.BlocksApart.{day-reach, day-reach-some, day-derate-some}
-use Rattle.ledger.proofs.TwoDays.{days-priced, hour-extended, days-added}
-use Rattle.ledger.proofs.KeptSheet.{sheet-settled}
-use Rattle.ledger.proofs.SumOfDay.{total-sum, total-refused, total-surplus}
+use Rattle.sheet.proofs.ReadHours.{read-sound}
+use Rattle.sheet.proofs.BlockDemands.{
+  block-reach-exactly-when-unpriced,
+  block-refused-for-reach-exactly-when-some-kilowatt-is-unpriced,
+  block-refused-for-derate-exactly-when-some-reduction-exceeds,
+}
+use Rattle.header.specs.Header.{marksOf}
+use Rattle.ledger.specs.Day.{Front, frontOf, hourReply, dayReply, surplus, dayTotal}
+use Rattle.ledger.specs.Demand.{SettledAlike, BlocksApart, PricedAlike, DaysApart, BothRead}
+use Rattle.ledger.proofs.HourOfDay.{hour-clear, own-block, read-reply, nothing-left}
+use Rattle.ledger.proofs.SheetFront.{marks-settle, front-append, kept-settled}
+use Rattle.ledger.proofs.BlocksApart.{blocks-alike, blocks-extended, blocks-added}
+use Rattle.ledger.proofs.TwoDays.{one-hour, other-hour, hours-settled}
 
 -- ---- the hours of a day
 
--- An hour of a day is its block's: the answer of the block call on that block's own bytes, excluded as the day's marks say, with its
--- place as the expected hour, and with any lent row of 30 entries or more.
-pub an-hour-of-a-day-is-its-blocks :
-    (hours : ℕ) (s : List ℕ)
-    → headerFault hours s ≡ clear
-    → (k room : ℕ)
-    → 30 ≤ room
-    → dayReply hours s k ≡ replyTo (blockOf (piece k (bodyOf hours s))) (excluded hours (marksOf hours s) k) (Says (pos k)) room
-an-hour-of-a-day-is-its-blocks = own-block
-
 -- A refused header refuses every hour, with its own number and place.
 pub a-refused-header-refuses-every-hour :
-    (hours : ℕ) (s : List ℕ) (number place : ℕ)
-    → headerFault hours s ≡ fault number place
+    (f : Front) (number place : ℕ)
+    → f .fault ≡ fault number place
     → (k : ℕ)
-    → dayReply hours s k ≡ refused number place
-a-refused-header-refuses-every-hour = hour-refused
+    → dayReply f k ≡ refused number place
+unfolding dayReply
+a-refused-header-refuses-every-hour f number place e k = ap (λ (v : Verdict). otherwise v (hourReply f k)) e
+
+-- An hour of a day is its block's: the answer of the block call on that block's own bytes, excluded as the day's front says, with its
+-- place as the expected hour, and with any lent row of 30 entries or more.
+pub an-hour-of-a-day-is-its-blocks :
+    (f : Front)
+    → f .fault ≡ clear
+    → (k room : ℕ)
+    → 30 ≤ room
+    → dayReply f k ≡ replyTo (blockOf (piece k (f .body))) (f .isExcluded k) (Says (pos k)) room
+an-hour-of-a-day-is-its-blocks f e k room h = hour-clear f e k ∙ own-block f k room h
 
 -- ORDER is given exactly when block k says another hour than k and its numbers are in their ranges, at 1.
 pub another-hour-is-order :
-    (hours : ℕ) (s : List ℕ)
-    → headerFault hours s ≡ clear
+    (f : Front)
+    → f .fault ≡ clear
     → (k : ℕ) (h : Hour)
-    → blockOf (piece k (bodyOf hours s)) ≡ read h
+    → blockOf (piece k (f .body)) ≡ read h
     → (place : ℕ)
-    → (dayReply hours s k ≡ refused ORDER place) ↔ ((range h ≡ clear) × (place ≡ 1) × (h .hour ≡ pos k → ⊥))
-another-hour-is-order = another-hour
+    → (dayReply f k ≡ refused ORDER place) ↔ ((range h ≡ clear) × (place ≡ 1) × (h .hour ≡ pos k → ⊥))
+another-hour-is-order f e k h x place =
+    let own = read-reply f e k h x in
+    let it = order-exactly-when-another-hour h (f .isExcluded k) (Says (pos k)) 30 place in (
+      λ d. let w = it .0 (sym own ∙ d) in (w .1, w .2, λ q. w .3 .other (let a = w .3 .asked in cc)),
+      λ w. own ∙ it .1 (read-sound _ h x .form, w .0, w .1, record { hour = pos k; asked = refl; other = w .2 }),
+    )
 
 -- A block that says the hour of its place is answered as where any hour may be said.
 pub its-own-hour-is-as-any :
-    (hours : ℕ) (s : List ℕ)
-    → headerFault hours s ≡ clear
+    (f : Front)
+    → f .fault ≡ clear
     → (k : ℕ) (h : Hour)
-    → blockOf (piece k (bodyOf hours s)) ≡ read h
+    → blockOf (piece k (f .body)) ≡ read h
     → h .hour ≡ pos k
-    → dayReply hours s k ≡ reply h (excluded hours (marksOf hours s) k) Any 30
-its-own-hour-is-as-any = its-own-hour
+    → dayReply f k ≡ reply h (f .isExcluded k) Any 30
+unfolding replyBy order
+its-own-hour-is-as-any f e k h x own = read-reply f e k h x ∙ rw (true-eqZ (h .hour) (pos k) own)
 
 -- ---- the marks
 
@@ -74,127 +92,143 @@ its-own-hour-is-as-any = its-own-hour
 -- in every hour but g are answered alike in every hour that is further from g.
 pub a-mark-moves-no-hour-further-than-two :
     (hours : ℕ) (s t : List ℕ)
-    → headerFault hours s ≡ clear
-    → headerFault hours t ≡ clear
-    → bodyOf hours s ≡ bodyOf hours t
+    → frontOf hours s .fault ≡ clear
+    → frontOf hours t .fault ≡ clear
+    → frontOf hours s .body ≡ frontOf hours t .body
     → (g : ℕ)
     → AlikeBut g (marksOf hours s) (marksOf hours t)
     → (k : ℕ)
     → near g k ≡ false
-    → dayReply hours s k ≡ dayReply hours t k
-a-mark-moves-no-hour-further-than-two = mark-near
+    → dayReply (frontOf hours s) k ≡ dayReply (frontOf hours t) k
+a-mark-moves-no-hour-further-than-two hours s t one other body g alike k far =
+    marks-settle hours s t one other body k (a-mark-moves-no-further-than-two hours (marksOf hours s) (marksOf hours t) g k alike far)
 
 -- Without `rtc` the rows x5 and x6 move no answer.
 pub without-rtc-x5-and-x6-move-no-hour :
     (hours : ℕ) (s t : List ℕ)
-    → headerFault hours s ≡ clear
-    → headerFault hours t ≡ clear
-    → bodyOf hours s ≡ bodyOf hours t
+    → frontOf hours s .fault ≡ clear
+    → frontOf hours t .fault ≡ clear
+    → frontOf hours s .body ≡ frontOf hours t .body
     → marksOf hours s .rtc ≡ false
     → marksOf hours t .rtc ≡ false
     → AlikeToX4 (marksOf hours s) (marksOf hours t)
     → (k : ℕ)
-    → dayReply hours s k ≡ dayReply hours t k
-without-rtc-x5-and-x6-move-no-hour = marks-without-rtc
+    → dayReply (frontOf hours s) k ≡ dayReply (frontOf hours t) k
+without-rtc-x5-and-x6-move-no-hour hours s t one other body off off′ alike k =
+    marks-settle hours s t one other body k (without-rtc hours (marksOf hours s) (marksOf hours t) k off off′ alike)
 
 -- ---- demand 3
-
--- Only the prices of the kilowatts between D and the limit matter: two days with one header whose blocks differ in their curve lines
--- only, and whose hours are the same, or refused by no check from 1 to 4 and with prices that agree on every kilowatt that must be
--- priced, have the same answers and the same total.
-pub only-needed-prices-of-a-day-matter :
-    (hours : ℕ) (s t : List ℕ)
-    → DaysApart hours s t
-    → ((k : ℕ) → k < hours → (h g : Hour)
-    → blockOf (piece k (bodyOf hours s)) ≡ read h
-    → blockOf (piece k (bodyOf hours t)) ≡ read g
-    → PricedAlike h g (excluded hours (marksOf hours s) k) (Says (pos k)))
-    → ((k : ℕ) → k < hours → dayReply hours s k ≡ dayReply hours t k) × (dayTotal hours s ≡ dayTotal hours t)
-only-needed-prices-of-a-day-matter = days-priced
 
 -- REACH is given exactly when no check from 1 to 5 refuses and a kilowatt that must be priced has no price: at the first interval that
 -- has one, and where no DERATE stands at or before it.
 pub reach-of-an-hour-exactly-when-unpriced :
-    (hours : ℕ) (s : List ℕ)
-    → headerFault hours s ≡ clear
+    (f : Front)
+    → f .fault ≡ clear
     → (k i : ℕ) (h : Hour)
-    → blockOf (piece k (bodyOf hours s)) ≡ read h
-    → (dayReply hours s k ≡ refused REACH (i + 1)) ↔ (NoFaultTo5 h (Says (pos k)) × FirstUnpriced h (excluded hours (marksOf hours s) k) i)
-reach-of-an-hour-exactly-when-unpriced = day-reach
+    → blockOf (piece k (f .body)) ≡ read h
+    → (dayReply f k ≡ refused REACH (i + 1)) ↔ (WholeHour h (Says (pos k)) × FirstUnpriced h (f .isExcluded k) i)
+reach-of-an-hour-exactly-when-unpriced f e k i h x =
+    rw (an-hour-of-a-day-is-its-blocks f e k 30 (omega arith))
+    (block-reach-exactly-when-unpriced (piece k (f .body)) h (f .isExcluded k) (Says (pos k)) 30 i x)
 
 -- So an hour of a day is refused for reach exactly when no check from 1 to 5 refuses it, a kilowatt that some interval must price has no
 -- price, and no derate refusal falls in that interval or before it.
 pub an-hour-is-refused-for-reach-exactly-when-some-kilowatt-is-unpriced :
-    (hours : ℕ) (s : List ℕ)
-    → headerFault hours s ≡ clear
+    (f : Front)
+    → f .fault ≡ clear
     → (k : ℕ) (h : Hour)
-    → blockOf (piece k (bodyOf hours s)) ≡ read h
-    → ((place : ℕ) × (dayReply hours s k ≡ refused REACH place)) ↔ (NoFaultTo5 h (Says (pos k)) × UnpricedBeforeDerate h (excluded hours (marksOf hours s) k))
-an-hour-is-refused-for-reach-exactly-when-some-kilowatt-is-unpriced = day-reach-some
+    → blockOf (piece k (f .body)) ≡ read h
+    → ((place : ℕ) × (dayReply f k ≡ refused REACH place)) ↔ (WholeHour h (Says (pos k)) × UnpricedBeforeDerate h (f .isExcluded k))
+an-hour-is-refused-for-reach-exactly-when-some-kilowatt-is-unpriced f e k h x =
+    rw (an-hour-of-a-day-is-its-blocks f e k 30 (omega arith))
+    (block-refused-for-reach-exactly-when-some-kilowatt-is-unpriced (piece k (f .body)) h (f .isExcluded k) (Says (pos k)) 30 x)
 
 -- And for derate exactly when no check from 1 to 5 refuses it, the reduction of some eligible interval exceeds the room for it, and no
 -- reach refusal falls before that interval.
 pub an-hour-is-refused-for-derate-exactly-when-some-reduction-exceeds :
-    (hours : ℕ) (s : List ℕ)
-    → headerFault hours s ≡ clear
+    (f : Front)
+    → f .fault ≡ clear
     → (k : ℕ) (h : Hour)
-    → blockOf (piece k (bodyOf hours s)) ≡ read h
-    → ((place : ℕ) × (dayReply hours s k ≡ refused DERATE place)) ↔ (NoFaultTo5 h (Says (pos k)) × ExceededBeforeReach h (excluded hours (marksOf hours s) k))
-an-hour-is-refused-for-derate-exactly-when-some-reduction-exceeds = day-derate-some
+    → blockOf (piece k (f .body)) ≡ read h
+    → ((place : ℕ) × (dayReply f k ≡ refused DERATE place)) ↔ (WholeHour h (Says (pos k)) × ExceededBeforeReach h (f .isExcluded k))
+an-hour-is-refused-for-derate-exactly-when-some-reduction-exceeds f e k h x =
+    rw (an-hour-of-a-day-is-its-blocks f e k 30 (omega arith))
+    (block-refused-for-derate-exactly-when-some-reduction-exceeds (piece k (f .body)) h (f .isExcluded k) (Says (pos k)) 30 x)
+
+-- Two sheets with one header, whose blocks differ in their curve lines only, are two such days.
+pub sheets-with-one-header-are-apart :
+    (hours : ℕ) (head body other : List ℕ)
+    → frontOf hours head .fault ≡ clear
+    → frontOf hours head .body ≡ []
+    → ((k : ℕ) → k < hours → BlocksApart (piece k body) (piece k other))
+    → restAfter hours body ≡ restAfter hours other
+    → DaysApart (frontOf hours (head ++ body)) (frontOf hours (head ++ other))
+sheets-with-one-header-are-apart hours head body other e alone blocks rest =
+    subst (λ f. DaysApart f (frontOf hours (head ++ other))) (sym (front-append hours head e alone body))
+    (subst (DaysApart _) (sym (front-append hours head e alone other))
+    (record { one-read = refl; other-read = refl; hours = refl; excluded = λ k u. refl; blocks = blocks; surplus = rest }))
+
+-- Only the prices of the kilowatts between D and the limit matter: two days whose blocks differ in their curve lines only, and whose hours
+-- are the same, or refused by no check from 1 to 4 and with prices that agree on every kilowatt that must be priced, have the same
+-- answers and the same total.
+pub only-needed-prices-of-a-day-matter :
+    (f g : Front)
+    → DaysApart f g
+    → BothRead f g (λ k h j. PricedAlike h j (f .isExcluded k) (Says (pos k)))
+    → SettledAlike f g
+only-needed-prices-of-a-day-matter f g d alike = hours-settled f g d (λ k u. blocks-alike _ _ _ _ (d .blocks k u) (alike k u))
 
 -- Adding curve to a paid hour of a day never moves a cent, where the longer curves break no rule of checks 1 to 4: with every price that
 -- its curves had, and perhaps more, it pays the same.
 pub adding-curve-to-an-hour-changes-nothing :
-    (hours : ℕ) (s t : List ℕ)
-    → DaysApart hours s t
+    (f g : Front)
+    → DaysApart f g
     → (k : ℕ)
-    → k < hours
-    → (h g : Hour)
-    → blockOf (piece k (bodyOf hours s)) ≡ read h
-    → blockOf (piece k (bodyOf hours t)) ≡ read g
-    → NoFaultTo4 g (Says (pos k))
-    → Extends (h .da) (g .da)
-    → Extends (h .rt) (g .rt)
+    → k < f .hours
+    → (h j : Hour)
+    → blockOf (piece k (f .body)) ≡ read h
+    → blockOf (piece k (g .body)) ≡ read j
+    → Lawful j (Says (pos k))
+    → Extends (h .da) (j .da)
+    → Extends (h .rt) (j .rt)
     → (sum cents : ℤ)
-    → dayReply hours s k ≡ paid sum cents
-    → dayReply hours t k ≡ paid sum cents
-adding-curve-to-an-hour-changes-nothing = hour-extended
+    → dayReply f k ≡ paid sum cents
+    → dayReply g k ≡ paid sum cents
+adding-curve-to-an-hour-changes-nothing f g d k u h j x y c da rt sum cents p =
+    other-hour f g d k u ∙ blocks-extended _ _ _ _ (d .blocks k u) h j x y sum cents c da rt (sym (one-hour f g d k u) ∙ p)
 
 -- So adding curve to any hours of a day whose hours are all paid changes no answer and not the total.
 pub adding-curve-to-a-day-changes-nothing :
-    (hours : ℕ) (s t : List ℕ)
-    → DaysApart hours s t
-    → ((k : ℕ) → k < hours → Pays (dayReply hours s k))
-    → ((k : ℕ) → k < hours → (h g : Hour)
-    → blockOf (piece k (bodyOf hours s)) ≡ read h
-    → blockOf (piece k (bodyOf hours t)) ≡ read g
-    → NoFaultTo4 g (Says (pos k)) × Extends (h .da) (g .da) × Extends (h .rt) (g .rt))
-    → ((k : ℕ) → k < hours → dayReply hours s k ≡ dayReply hours t k) × (dayTotal hours s ≡ dayTotal hours t)
-adding-curve-to-a-day-changes-nothing = days-added
+    (f g : Front)
+    → DaysApart f g
+    → ((k : ℕ) → k < f .hours → Pays (dayReply f k))
+    → BothRead f g (λ k h j. Lawful j (Says (pos k)) × Extends (h .da) (j .da) × Extends (h .rt) (j .rt))
+    → SettledAlike f g
+adding-curve-to-a-day-changes-nothing f g d pays longer =
+    hours-settled f g d (λ k u. blocks-added _ _ _ _ (d .blocks k u) (rw (one-hour f g d k u) at (pays k u)) (longer k u))
 
 -- ---- the total
 
 -- A total is given exactly when every hour is paid and no byte follows the last block, and it is the sum of the cents that are printed.
 pub the-total-is-the-sum-of-what-is-printed :
-    (hours : ℕ) (s : List ℕ) (c : ℤ)
-    → (dayTotal hours s ≡ total c)
-    ↔ (((k : ℕ) → k < hours → Pays (dayReply hours s k)) × (c ≡ sumTo (λ k. centsIn (dayReply hours s k)) hours) × (restAfter hours (bodyOf hours s) ≡ []))
-the-total-is-the-sum-of-what-is-printed = total-sum
+    (f : Front) (c : ℤ)
+    → (dayTotal f ≡ total c)
+    ↔ (((k : ℕ) → k < f .hours → Pays (dayReply f k)) × (c ≡ sumTo (λ k. paidCents (dayReply f k)) (f .hours)) × (surplus f ≡ []))
+the-total-is-the-sum-of-what-is-printed f c =
+    let it = total-paid (dayReply f) (f .hours) (isSome (surplus f)) c in
+    (λ e. let p = it .0 e in (p .0, p .1, nothing-left (surplus f) (p .2)), λ p. it .1 (p .0, p .1, ap isSome (p .2)))
 
 -- A refused hour withholds the total.
 pub a-refused-hour-withholds-the-total :
-    (hours : ℕ) (s : List ℕ) (k number place : ℕ)
-    → k < hours
-    → dayReply hours s k ≡ refused number place
-    → dayTotal hours s ≡ none
-a-refused-hour-withholds-the-total = total-refused
+    (f : Front) (k number place : ℕ)
+    → k < f .hours
+    → dayReply f k ≡ refused number place
+    → dayTotal f ≡ noTotal
+a-refused-hour-withholds-the-total f k number place = total-refused (dayReply f) (f .hours) k number place (isSome (surplus f))
 
 -- So does a byte behind the last block.
-pub what-follows-withholds-the-total :
-    (hours : ℕ) (s : List ℕ) (b : ℕ) (t : List ℕ)
-    → restAfter hours (bodyOf hours s) ≡ b ∷ t
-    → dayTotal hours s ≡ none
-what-follows-withholds-the-total = total-surplus
+pub what-follows-withholds-the-total : (f : Front) (b : ℕ) (t : List ℕ) → surplus f ≡ b ∷ t → dayTotal f ≡ noTotal
+what-follows-withholds-the-total f b t e = ap (λ (l : List ℕ). totalOf (dayReply f) (f .hours) (isSome l)) e ∙ total-surplus (dayReply f) (f .hours)
 
 -- ---- bounded memory
 
@@ -203,7 +237,5 @@ what-follows-withholds-the-total = total-surplus
 pub a-kept-sheet-is-settled-alike :
     (hours : ℕ) (s : List ℕ)
     → hours ≤ 24
-    → (headerFault hours (keptOf (atFirst (suc hours)) s) ≡ headerFault hours s)
-    × ((k : ℕ) → k < hours → dayReply hours (keptOf (atFirst (suc hours)) s) k ≡ dayReply hours s k)
-    × (dayTotal hours (keptOf (atFirst (suc hours)) s) ≡ dayTotal hours s)
-a-kept-sheet-is-settled-alike = sheet-settled
+    → SettledAlike (frontOf hours (keptOf (atFirst (suc hours)) s)) (frontOf hours s)
+a-kept-sheet-is-settled-alike hours s h = kept-settled hours s (omega arith)

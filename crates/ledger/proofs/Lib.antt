@@ -6,11 +6,7 @@ pub mod Days
 pub mod Unique
 pub mod RoomEnough
 pub mod HourOfDay
-pub mod SumOfDay
-pub mod MarksOfDay
+pub mod SheetFront
 pub mod BlocksApart
-pub mod OneHeader
 pub mod TwoDays
-pub mod KeptOfDay
-pub mod KeptSheet
 pub mod DayDemands

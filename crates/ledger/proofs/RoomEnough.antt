@@ -7,6 +7,7 @@ use native.Mathlib.Omega.{arith}
 use borrow.Author.Tests.{le-leb}
 use Rattle.tariff.specs.declared.Hour.{Hour}
 use Rattle.tariff.specs.declared.Expected.{Expected}
+use Rattle.tariff.specs.Outcome.{replyBy}
 use Rattle.tariff.specs.Hour.{form, reply}
 use Rattle.tariff.proofs.Ranges.{form-says}
 use Rattle.blocks.specs.Block.{Block, broken, read, blockOf}
@@ -15,7 +16,7 @@ use Rattle.sheet.proofs.ReadHours.{read-sound}
 
 module _ (isExcluded : Bool) (expected : Expected) (room : ℕ) (enough : 30 ≤ room) where
   reply-roomy : (h : Hour) → h .n ≤ 30 → reply h isExcluded expected 30 ≡ reply h isExcluded expected room
-  unfolding reply
+  unfolding replyBy
   reply-roomy h l = rw (le-leb (h .n) 30 l, le-leb (h .n) room (omega arith))
 
   pub any-room : (s : List ℕ) → replyTo (blockOf s) isExcluded expected 30 ≡ replyTo (blockOf s) isExcluded expected room

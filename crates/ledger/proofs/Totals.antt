@@ -1,12 +1,12 @@
--- The sum of the paid cents, with one answer more: what it is and how large it can be. A refusal withholds it.
+-- The sum of the paid cents, with one answer more: what it is and how large it can be.
 use mathlib.Core.Path.{_≡_, refl, sym, ap}
-use Prim.Native.Nat.{ℕ, zero, suc, _+_, _^_, _<_, _≤_}
+use Prim.Native.Nat.{ℕ, _+_, _^_, _<_, _≤_}
 use native.Mathlib.Nat.{div-le-of-le-mul}
-use native.Mathlib.Numerals.{add-one}
 use native.Mathlib.Omega.{arith}
 use lib.IntN.{ℤ, pos, negsuc, _+ℤ_}
 use lib.Signed.{mag}
 use Rattle.exact.specs.Whole.{over, Within}
+use Rattle.exact.proofs.Apart.{impossible}
 use Rattle.exact.proofs.Range.{within-add, within-more}
 use Rattle.tariff.specs.declared.Answer.{Answer}
 use Rattle.tariff.specs.declared.Answer.the-variants.{Paid, Refused}
@@ -14,31 +14,17 @@ use Rattle.tariff.specs.declared.Check.{Check}
 use Rattle.tariff.specs.declared.Cents.{Cents}
 use Rattle.tariff.specs.declared.Grains.{Grains}
 use Rattle.tariff.specs.Units.{centsOf}
-use Rattle.tariff.specs.Reply.{Reply, paid, refused, told}
+use Rattle.tariff.specs.Reply.{Reply, paid, told}
 use Rattle.tariff.specs.declared.Total.{Total}
 use Rattle.tariff.specs.declared.Total.the-variants.{Of, Withheld}
-use Rattle.tariff.specs.Total.{Sum, total, none, _plus_, sumOf, toldTotal}
+use Rattle.tariff.specs.Total.{Sum, total, noTotal, toldTotal}
+use Rattle.tariff.proofs.Totals.{refusal-withholds}
 use Rattle.ledger.specs.Walk.{Rounded, UpToCents, Added}
-
--- ---- the sum of the first
-
-pub sum-next : (f : ℕ → Reply) (n : ℕ) → sumOf f (n + 1) ≡ (sumOf f n plus f n)
-unfolding sumOf
-sum-next f n = rw add-one
-
-pub sum-same : (f g : ℕ → Reply) (n : ℕ) → ((k : ℕ) → k < n → f k ≡ g k) → sumOf f n ≡ sumOf g n
-unfolding sumOf
-sum-same f g zero h = refl
-sum-same f g (suc n) h = rw (sum-same f g n (λ k u. h k (omega arith)), h n (omega arith))
-
-refusal-withholds : (x : Sum) (number place : ℕ) → (x plus refused number place) ≡ none
-refusal-withholds (total c) number place = refl
-refusal-withholds none number place = refl
 
 -- ---- how large it can be
 
-pub none-most : (N : ℕ) → UpToCents N none
-none-most N = record { most = λ c e. absurd (let z : _≡_ {A = ℕ} 0 1 = cc in omega arith) }
+none-most : (N : ℕ) → UpToCents N noTotal
+none-most N = record { most = λ c e. impossible cc }
 
 pub most-more : {A B : ℕ} {x : Sum} → A ≤ B → UpToCents A x → UpToCents B x
 most-more h u = record { most = λ c e. within-more h (u .most c e) }
@@ -60,10 +46,10 @@ rounded-most r sum cents h e f = rw (h .cents sum cents e) (cents-most sum f)
 
 -- ---- one answer more
 
-pub add-withheld : (t : Total) (a : Answer) → t ≡ Withheld → Added (toldTotal t) (told a) none
+pub add-withheld : (t : Total) (a : Answer) → t ≡ Withheld → Added (toldTotal t) (told a) noTotal
 add-withheld t a e = rw e (record { told = refl; most = λ N u. none-most (N + 2600000000000) })
 
-pub add-refused : (t : Total) (a : Answer) (check : Check) → a ≡ Refused check → Added (toldTotal t) (told a) none
+pub add-refused : (t : Total) (a : Answer) (check : Check) → a ≡ Refused check → Added (toldTotal t) (told a) noTotal
 add-refused t a check e =
     rw e (record { told = sym (refusal-withholds (toldTotal t) _ _); most = λ N u. none-most (N + 2600000000000) })
 

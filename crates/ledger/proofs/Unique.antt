@@ -6,30 +6,30 @@ use Rattle.tariff.specs.declared.Found.{Found}
 use Rattle.tariff.specs.Units.{cents}
 use Rattle.tariff.proofs.Demands.{one-finding}
 use Rattle.ledger.specs.declared.Day.{Day}
-use Rattle.tariff.specs.declared.Place.{Place}
+use Rattle.tariff.specs.declared.HourAnswer.{HourAnswer}
 use Rattle.tariff.specs.declared.Total.{Total}
 use Rattle.tariff.specs.declared.Total.the-variants.{Of, Withheld}
-use Rattle.tariff.specs.Total.{Sum, total, none, toldTotal}
-use Rattle.tariff.proofs.Places.{places-one}
+use Rattle.tariff.specs.Total.{Sum, total, noTotal, toldTotal}
+use Rattle.tariff.proofs.HourAnswers.{answers-one}
 use Rattle.ledger.proofs.settle_day.Reads as settle-day
 
-abbrev totalOf : Sum → Total
-totalOf (total c) = Of (cents c)
-totalOf none = Withheld
+abbrev totalTold : Sum → Total
+totalTold (total c) = Of (cents c)
+totalTold noTotal = Withheld
 
-total-back : (t : Total) → totalOf (toldTotal t) ≡ t
+total-back : (t : Total) → totalTold (toldTotal t) ≡ t
 total-back (Of c) = refl
 total-back Withheld = refl
 
 total-one : (t u : Total) → toldTotal t ≡ toldTotal u → t ≡ u
-total-one t u e = sym (total-back t) ∙ ap totalOf e ∙ total-back u
+total-one t u e = sym (total-back t) ∙ ap totalTold e ∙ total-back u
 
-abbrev day : Found → List Place → Total → Day
+abbrev day : Found → List HourAnswer → Total → Day
 day header hours t = record { header = header; hours = hours; total = t }
 
 pub one-settle-day : OneReply settle-day.Post
 one-settle-day κ a r s u v p q = λ i.
     day
     (one-finding (r .header) (s .header) _ (p .0) (q .0) i)
-    (places-one (r .hours) (s .hours) (p .1 .0 ∙ sym (q .1 .0)) i)
+    (answers-one (r .hours) (s .hours) (p .1 .0 ∙ sym (q .1 .0)) i)
     (total-one (r .total) (s .total) (p .1 .1 ∙ sym (q .1 .1)) i)

@@ -1,4 +1,4 @@
--- A day: its blocks, the answer of each block place, and the total.
+-- A day: its front, its blocks, the answer of each hour, and the total.
 pub mod Day
 pub mod Demand
 pub mod Walk

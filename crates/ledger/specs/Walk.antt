@@ -1,26 +1,36 @@
--- What the walk over a day's blocks gives: an answer for each, by a word of excluded hours, and their total. And what a refused
--- header gives instead.
+-- What the code hands on from a sheet's front to the walk over its blocks, and what the walk gives: an answer for each, by a word of
+-- excluded hours, and their total. And what a refused front gives instead.
 use mathlib.Core.Path.{_≡_}
 use mathlib.Core.List.{List}
-use Prim.Native.Nat.{ℕ, _+_}
-use lib.IntN.{ℤ, pos}
-use lib.ListN.{length, take, replicate}
-use Rattle.exact.specs.Choice.{if_then_else_}
-use Rattle.exact.specs.Whole.{upTo, Within}
+use Prim.Native.Nat.{ℕ, _+_, _≤_}
+use lib.IntN.{ℤ}
+use lib.ListN.{length, take, drop, replicate}
+use Rattle.exact.specs.Whole.{Within}
 use Rattle.tariff.specs.declared.Answer.the-variants.{Refused}
 use Rattle.tariff.specs.declared.Check.{Check}
-use Rattle.tariff.specs.declared.Expected.the-variants.{Says}
 use Rattle.tariff.specs.declared.Found.the-variants.{Fault}
-use Rattle.tariff.specs.Units.{centsOf}
-use Rattle.tariff.specs.Reply.{Reply, paid}
-use Rattle.tariff.specs.Eligible.{marked}
-use Rattle.lines.specs.Pieces.{restAfter, isSome}
-use Rattle.blocks.specs.Block.{blockOf}
-use Rattle.sheet.specs.Settle.{replyTo}
-use Rattle.ledger.specs.declared.Day.{Day}
 use Rattle.tariff.specs.declared.Total.the-variants.{Withheld}
+use Rattle.tariff.specs.Units.{centsOf}
+use Rattle.tariff.specs.Reply.{Reply, paid, clear, shown}
+use Rattle.tariff.specs.Eligible.{marked}
+use Rattle.tariff.specs.Total.{Sum, total, _plus_, toldTotal, toldAll}
+use Rattle.marks.specs.Word.{word}
+use Rattle.ledger.specs.declared.Day.{Day}
+use Rattle.ledger.specs.declared.front.Front as code
 use Rattle.ledger.specs.declared.hours.Settled.{Settled}
-use Rattle.tariff.specs.Total.{Sum, total, none, _plus_, sumOf, toldTotal, toldAll}
+use Rattle.ledger.specs.Day.{Front, dayReplies, dayTotal}
+
+-- ---- the front of a sheet: its fault, a bit for each excluded hour, and the place of the first block
+
+pub record FrontRead (s : List ℕ) (f : Front) (r : code.Front) : Type 0 where
+  pub fault : shown (r .found) ≡ f .fault
+  pub excluded : r .excluded ≡ word (f .hours) (f .isExcluded)
+  pub inside : r .next ≤ length s
+  pub body : drop (r .next) s ≡ f .body
+
+-- a day that is read, where bit k of a word says whether hour k is excluded
+abbrev pub wordFront : (word : ℕ) → List ℕ → (hours : ℕ) → Front
+wordFront word body hours = record { fault = clear; hours = hours; isExcluded = marked word; body = body }
 
 -- ---- one answer more
 
@@ -39,16 +49,12 @@ pub record Added (x : Sum) (answer : Reply) (after : Sum) : Type 0 where
 
 -- ---- the blocks
 
--- the reply to block k of a text, where bit k of a word says whether its hour is excluded
-unfoldable pub wordReply : (word : ℕ) → List ℕ → ℕ → Reply
-wordReply word body k = replyTo (blockOf (restAfter k body)) (marked word k) (Says (pos k)) 30
-
-pub record SettledTo (word : ℕ) (body : List ℕ) (hours : ℕ) (r : Settled) : Type 0 where
+pub record SettledTo (f : Front) (r : Settled) : Type 0 where
   pub long : length (r .hours) ≡ 24
-  pub answers : toldAll (take hours (r .hours)) ≡ upTo (wordReply word body) hours
-  pub sum : toldTotal (r .total) ≡ (if isSome (restAfter hours body) then none else sumOf (wordReply word body) hours)
+  pub answers : toldAll (take (f .hours) (r .hours)) ≡ dayReplies f
+  pub sum : toldTotal (r .total) ≡ dayTotal f
 
--- ---- a refused header refuses every hour
+-- ---- a refused front refuses every hour
 
 abbrev pub refusedDay : Check → Day
 refusedDay check =

@@ -8,22 +8,22 @@ ghost use Rattle.tariff.specs.declared.Expected.the-variants.{Says};
 ghost use Rattle.blocks.specs.Block.{blockOf};
 ghost use Rattle.sheet.specs.Settle.{replyTo};
 ghost use Rattle.tariff.specs.Total.{toldTotal};
-ghost use Rattle.ledger.specs.Walk.{Rounded, UpToCents, Added, SettledTo};
+ghost use Rattle.ledger.specs.Walk.{Rounded, UpToCents, Added, wordFront, SettledTo};
 use tariff::Answer;
 use tariff::Cents;
 use tariff::Check;
 use tariff::Expected;
-use tariff::Place;
+use tariff::HourAnswer;
 use tariff::Total;
 
 // The answers of a day's blocks, and their total.
 pub struct Settled {
-    pub hours: [Place; 24],
+    pub hours: [HourAnswer; 24],
     pub total: Total,
 }
 
 // The block that begins at a place and has to say hour k.
-pub fn settle_place(s: &[u8], at: usize, excluded: bool, k: usize) -> Answer
+pub fn settle_hour(s: &[u8], at: usize, excluded: bool, k: usize) -> Answer
     requires { ⌜ (at ≤ length (now s)) × (k < 24) ⌝ }
     ensures { λ r. ⌜ told r ≡ replyTo (blockOf (drop at (now (s .entry)))) excluded (Says (pos k)) 30 ⌝ }
 {
@@ -50,9 +50,9 @@ pub fn add(total: Total, answer: Answer) -> Total
 // The answers of the first `hours` blocks from a place on, and their total, withheld where bytes follow.
 pub fn settle_hours(s: &[u8], at: usize, excluded: u32, hours: usize) -> Settled
     requires { ⌜ (at ≤ length (now s)) × (hours ≤ 24) ⌝ }
-    ensures { λ r. ⌜ SettledTo excluded (drop at (now (s .entry))) hours r ⌝ }
+    ensures { λ r. ⌜ SettledTo (wordFront excluded (drop at (now (s .entry))) hours) r ⌝ }
 {
-    let mut places = [Place {
+    let mut answers = [HourAnswer {
         answer: Answer::Refused(Check::Form(1)),
     }; 24];
     let mut total = Total::Of(Cents(0));
@@ -60,8 +60,8 @@ pub fn settle_hours(s: &[u8], at: usize, excluded: u32, hours: usize) -> Settled
     let mut k: usize = 0;
     while k < hours {
         let hour = k as u32;
-        let answer = settle_place(s, i, marks::is_marked(excluded, hour), k);
-        places[k] = Place { answer };
+        let answer = settle_hour(s, i, marks::is_marked(excluded, hour), k);
+        answers[k] = HourAnswer { answer };
         total = add(total, answer);
         i = lines::piece_after(s, i);
         k += 1;
@@ -70,7 +70,7 @@ pub fn settle_hours(s: &[u8], at: usize, excluded: u32, hours: usize) -> Settled
         total = Total::Withheld;
     }
     Settled {
-        hours: places,
+        hours: answers,
         total,
     }
 }

@@ -1,39 +1,25 @@
--- Two texts whose first bytes agree: the numbers, keys, fields and lines read among these bytes are the same, and end among them.
-use mathlib.Core.Path.{_≡_, refl, ap}
+-- Two texts whose first bytes agree share these, at the same places: what is read among them is the same, and ends among them.
+use mathlib.Core.Path.{_≡_, refl, sym}
 use mathlib.Core.Bool.{Bool, true, false}
 use mathlib.Core.List.{List, [], _∷_}
-use Prim.Native.Nat.{ℕ, zero, suc, _+_, _*_, _<_, _≤_}
+use Prim.Native.Nat.{ℕ, _+_, _*_, _<_, _≤_}
 use native.Mathlib.Omega.{arith}
-use borrow.Author.Tests.{leb-true}
-use lib.Dec.{leb, eqb}
-use lib.IntN.{ℤ, pos}
+use lib.Dec.{eqb}
 use lib.ListN.{length}
 use Rattle.exact.specs.Choice.{if_then_else_}
-use Rattle.text.specs.declared.digits.Digits.{Digits}
-use Rattle.text.specs.declared.digits.Digits.the-variants.{Natural, NoDigits}
-use Rattle.text.specs.declared.Number.{Number}
-use Rattle.text.specs.declared.Number.the-variants.{Got, Bad}
 use Rattle.text.specs.declared.Next.{Next}
 use Rattle.text.specs.declared.Next.the-variants.{At, Wrong}
 use Rattle.text.specs.Text.{byteAt, keyAt}
-use Rattle.text.specs.Number.{digitOf, digitAt, moreDigits, naturalAt, plain, negative, numberAt, missing}
-use Rattle.keys.specs.Keys.{keys, keyOf}
-use Rattle.lines.specs.Line.{orMissing, valueAt, valueAfter, fieldAt, placeOf, valueOf, andThen, afterFields, valueFrom, valueIn, lineFeed, lineAt, closes}
-use Rattle.keys.proofs.AllKeys.{table-all}
+use Rattle.text.specs.Number.{digitAt}
+use Rattle.lines.specs.Line.{andThen, afterFields, valueIn, lineFeed, lineAt}
+use Rattle.lines.proofs.Along.{Placed, both, neither, Stretch, digit-placed, fields-placed, values-placed}
+use Rattle.lines.proofs.Shared.{SharedLines, inside}
+pub use Rattle.lines.proofs.Along.{key-short}
 
--- ---- the same answer of two readings, whose next place, if any, is at most m
-
+-- the same answer of two readings, whose next place, if any, is at most m
 pub data SamePlace (m : ℕ) : Next → Next → Type 0 where
   goes : (i : ℕ) → i ≤ m → SamePlace m (At i) (At i)
   stops : SamePlace m Wrong Wrong
-
-data SameDigits (m : ℕ) : Digits → Digits → Type 0 where
-  some-digits : (v i : ℕ) → i ≤ m → SameDigits m (Natural v i) (Natural v i)
-  no-digits : SameDigits m NoDigits NoDigits
-
-data SameNumber (m : ℕ) : Number → Number → Type 0 where
-  number : (v : ℤ) (i : ℕ) → i ≤ m → SameNumber m (Got v i) (Got v i)
-  no-number : SameNumber m Bad Bad
 
 -- a test that two readings share
 pub either : {A : Type 0} (R : A → A → Type 0) {x x′ y y′ : A} (b : Bool) → R x x′ → R y y′ → R (if b then x else y) (if b then x′ else y′)
@@ -48,60 +34,31 @@ pub same-place : {m : ℕ} {x y : Next} → SamePlace m x y → x ≡ y
 same-place (goes i h) = refl
 same-place stops = refl
 
-place-same : {m : ℕ} {x y : Number} → SameNumber m x y → SamePlace m (placeOf x) (placeOf y)
-place-same (number v i h) = goes i h
-place-same no-number = stops
-
-value-same : {m : ℕ} {x y : Number} → SameNumber m x y → valueOf x ≡ valueOf y
-value-same (number v i h) = refl
-value-same no-number = refl
-
-plain-same : {m : ℕ} {x y : Digits} → SameDigits m x y → SameNumber m (plain x) (plain y)
-plain-same (some-digits v i h) = number (pos v) i h
-plain-same no-digits = no-number
-
-negative-same : {m : ℕ} {x y : Digits} → SameDigits m x y → SameNumber m (negative x) (negative y)
-negative-same {m} (some-digits v i h) = either (SameNumber m) (eqb v 0) no-number (number _ i h)
-negative-same no-digits = no-number
-
--- ---- no key is longer than eight bytes
-
-pub key-short : (k : ℕ) → length (keyOf k) ≤ 8
-key-short k = leb-true (length (keyOf k)) 8 (table-all (λ key. leb (length key) 8) keys k refl refl)
-
--- ---- the readings: a number has at most 8 bytes, a field 16, a line of n fields n * 16 + 1
+-- both stand where they are
+stays : {m : ℕ} {P : ℕ → Type 0} {x y : Next} → ((j : ℕ) → P j → j ≤ m) → Placed (λ j. j) (λ j. j) P x y → SamePlace m x y
+stays within (both j l) = goes j (within j l)
+stays within neither = stops
 
 module _ (s t : List ℕ) (N : ℕ) (agree : (i : ℕ) → i < N → byteAt s i ≡ byteAt t i) where
+  -- the first bytes, and the lines among them: as many bytes may be read as are left
+  pub first-bytes : (m : ℕ) → m ≤ N → Stretch s t (λ i. i) (λ i. i) (λ w i. i + w ≤ m)
+  first-bytes m u = record {
+    next = λ i. (refl, refl);
+    fewer = λ v w i l h. omega arith;
+    same = λ w i l h. agree i (omega arith);
+    on = λ v w i l h e. omega arith;
+  }
+
+  pub first-lines : SharedLines s t (λ i. i) (λ i. i) (λ w i. i + w ≤ N) (λ w i. i + w ≤ N)
+  first-lines = record {
+    line = first-bytes N (omega arith);
+    begins = λ w i h. inside h;
+    fed = λ v w i l h e. omega arith;
+    fewer = λ v w i l h. omega arith;
+  }
+
   pub digit : (at : ℕ) → at < N → digitAt s at ≡ digitAt t at
-  unfolding digitAt
-  digit at h = ap digitOf (agree at h)
-
-  digits : (left v at m : ℕ) → at + left ≤ m → m ≤ N → SameDigits m (moreDigits left v s at) (moreDigits left v t at)
-  unfolding moreDigits
-  digits zero v at m h u = some-digits v at (omega arith)
-  digits (suc left) v at m h u =
-      rw (digit at (omega arith))
-      (either (SameDigits m) (eqb (digitAt t at) 10)
-      (some-digits v at (omega arith))
-      (digits left (v * 10 + digitAt t at) (at + 1) m (omega arith) u))
-
-  natural : (at m : ℕ) → at + 7 ≤ m → m ≤ N → SameDigits m (naturalAt s at) (naturalAt t at)
-  unfolding naturalAt
-  natural at m h u =
-      rw (digit at (omega arith))
-      (either (SameDigits m) (eqb (digitAt t at) 10)
-      no-digits
-      (either (SameDigits m) (eqb (digitAt t at) 0)
-      (some-digits 0 (at + 1) (omega arith))
-      (digits 6 (digitAt t at) (at + 1) m (omega arith) u)))
-
-  number-same : (at m : ℕ) → at + 8 ≤ m → m ≤ N → SameNumber m (numberAt s at) (numberAt t at)
-  unfolding numberAt
-  number-same at m h u =
-      rw (agree at (omega arith))
-      (either (SameNumber m) (eqb (byteAt t at) 45)
-      (negative-same (natural (at + 1) m (omega arith) u))
-      (plain-same (natural at m (omega arith) u)))
+  digit at h = sym (digit-placed (first-bytes N (omega arith)) 1 at (omega arith) (omega arith))
 
   pub key-same : (key : List ℕ) (at m : ℕ) → at + length key ≤ m → m ≤ N → SamePlace m (keyAt key s at) (keyAt key t at)
   unfolding keyAt
@@ -110,49 +67,15 @@ module _ (s t : List ℕ) (N : ℕ) (agree : (i : ℕ) → i < N → byteAt s i 
       rw (agree at (omega arith))
       (either (SamePlace m) (eqb (byteAt t at) k) (key-same ks (at + 1) m (omega arith) u) stops)
 
-  missing-same : {x y : Number} (at m : ℕ) → at + 1 ≤ m → m ≤ N → SameNumber m x y → SameNumber m (orMissing x s at) (orMissing y t at)
-  missing-same at m h u (number v i l) = number v i l
-  missing-same at m h u no-number =
-      rw (agree at (omega arith))
-      (either (SameNumber m) (eqb (byteAt t at) 45) (number missing (at + 1) h) no-number)
-
-  any-value : (k at m : ℕ) → at + 8 ≤ m → m ≤ N → SameNumber m (valueAt k s at) (valueAt k t at)
-  unfolding valueAt
-  any-value k at m h u =
-      let n = number-same at m h u in
-      either (SameNumber m) (eqb k 23) (missing-same at m (omega arith) u n) n
-
-  field : (k at m : ℕ) → at + 16 ≤ m → m ≤ N → SameNumber m (fieldAt k s at) (fieldAt k t at)
-  unfolding fieldAt
-  field k at m h u = go (key-same (keyOf k) at (at + 8) (omega (arith, key-short k)) (omega arith))
-    where
-      go : {x y : Next} → SamePlace (at + 8) x y → SameNumber m (valueAfter k s x) (valueAfter k t y)
-      go (goes i l) = any-value k i m (omega arith) u
-      go stops = no-number
-
-  pub fields : (first n at m : ℕ) → at + n * 16 ≤ m → m ≤ N → SamePlace m (afterFields first n s at) (afterFields first n t at)
-  unfolding afterFields
-  fields first zero at m h u = goes at (omega arith)
-  fields first (suc n) at m h u =
-      goes-on _ _ (fields first n at (at + n * 16) (omega arith) (omega arith))
-      (λ i l. place-same (field (first + n) i m (omega arith) u))
-
   pub value : (first n at : ℕ) → at + n * 16 + 16 ≤ N → valueIn first s at n ≡ valueIn first t at n
-  unfolding valueIn
-  value first n at h = go (fields first n at (at + n * 16) (omega arith) (omega arith))
-    where
-      go : {x y : Next} → SamePlace (at + n * 16) x y → valueFrom (first + n) s x ≡ valueFrom (first + n) t y
-      go (goes i l) = value-same (field (first + n) i N (omega arith) (omega arith))
-      go stops = refl
+  value first n at h = values-placed (first-bytes N (omega arith)) first n (n * 16 + 16) at (omega arith) (omega arith)
 
   pub feed : (at m : ℕ) → at + 1 ≤ m → m ≤ N → SamePlace m (lineFeed s at) (lineFeed t at)
   feed = key-same (10 ∷ [])
 
+  pub fields : (first n at m : ℕ) → at + n * 16 ≤ m → m ≤ N → SamePlace m (afterFields first n s at) (afterFields first n t at)
+  fields first n at m h u = stays (λ j l. omega arith) (fields-placed (first-bytes m u) first n 0 (n * 16) at (omega arith) (omega arith))
+
   pub line : (first n at m : ℕ) → at + n * 16 + 1 ≤ m → m ≤ N → SamePlace m (lineAt first n s at) (lineAt first n t at)
   unfolding lineAt
-  line first n at m h u =
-      goes-on _ _ (fields first n at (at + n * 16) (omega arith) (omega arith)) (λ i l. feed i m (omega arith) u)
-
-  pub close : (at : ℕ) → at < N → closes s at ≡ closes t at
-  unfolding closes
-  close at h = rw (agree at h)
+  line first n at m h u = goes-on _ _ (fields first n at (at + n * 16) (omega arith) (omega arith)) (λ i l. feed i m (omega arith) u)

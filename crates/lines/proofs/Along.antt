@@ -1,20 +1,22 @@
--- Two texts with the same bytes, each from a place of its own on, up to a line's end: what is read there is the same, moved.
+-- Two texts that share a stretch of bytes, each from a place of its own on: what is read there is the same, moved.
 use mathlib.Core.Path.{_≡_, refl, sym, ap, _∙_}
 use mathlib.Core.Bool.{Bool, true, false, not, _&&_, _||_, false≢true}
 use mathlib.Core.List.{List, [], _∷_}
-use Prim.Native.Nat.{ℕ, zero, suc, _+_, _≤_, _<_}
+use Prim.Native.Nat.{ℕ, zero, suc, _+_, _*_, _≤_, _<_}
 use native.Mathlib.Decide.{decLt}
 use native.Mathlib.Nat.{add-assoc}
 use native.Mathlib.Omega.{arith}
-use borrow.Author.Tests.{eqb-true, eqb-false, ne-eqb, not-true}
-use lib.Dec.{eqb}
+use borrow.Author.Tests.{eqb-true, eqb-false, ne-eqb, not-true, leb-true}
+use lib.Dec.{eqb, leb}
+use lib.ListN.{length}
 use lib.IntN.{ℤ, pos, negℤ}
 use Rattle.exact.specs.Choice.{if_then_else_}
+use Rattle.exact.proofs.Apart.{impossible}
 use Rattle.exact.proofs.Tests.{and-left, and-right}
 use Rattle.text.specs.Text.{byteAt, keyAt}
 use Rattle.text.specs.Number.{digitOf, digitAt, moreDigits, naturalAt, plain, negative, numberAt, missing}
-use Rattle.keys.specs.Keys.{keys, keyOf}
-use Rattle.lines.specs.Line.{orMissing, valueAt, valueAfter, fieldAt, placeOf, valueOf, andThen, afterFields, valueFrom, valueIn}
+use Rattle.keys.specs.Keys.{keys, keyOf, mayMiss}
+use Rattle.lines.specs.Line.{orMissing, valueAt, valueAfter, fieldAt, nextOf, valueOf, andThen, afterFields, valueFrom, valueIn, lineFeed, lineAt}
 use Rattle.text.specs.declared.digits.Digits.{Digits}
 use Rattle.text.specs.declared.digits.Digits.the-variants.{Natural, NoDigits}
 use Rattle.text.specs.declared.Number.{Number}
@@ -27,67 +29,58 @@ use Rattle.keys.proofs.AllKeys.{table-all}
 abbrev pub closing : ℕ → Bool
 closing b = eqb b 256 || eqb b 10
 
--- the bytes from p of s and from q of t on are the same up to the m-th, which ends a line
-pub record Along (s t : List ℕ) (p q m : ℕ) : Type 0 where
-  pub same : (i : ℕ) → i ≤ m → byteAt s (p + i) ≡ byteAt t (q + i)
-  pub stop : closing (byteAt s (p + m)) ≡ true
+-- ---- two readings that are the same, moved: both at f j and g j for a j of which P holds, or neither
 
--- ---- two readings that are the same, moved: both at p + j and q + j for a j up to m, or neither
+pub data Placed (f g : ℕ → ℕ) (P : ℕ → Type 0) : Next → Next → Type 0 where
+  both : (j : ℕ) → P j → Placed f g P (At (f j)) (At (g j))
+  neither : Placed f g P Wrong Wrong
 
-pub data Moved (p q m : ℕ) : Next → Next → Type 0 where
-  both : (j : ℕ) → j ≤ m → Moved p q m (At (p + j)) (At (q + j))
-  neither : Moved p q m Wrong Wrong
+data DigitsPlaced (f g : ℕ → ℕ) (P : ℕ → Type 0) : Digits → Digits → Type 0 where
+  naturals : (v j : ℕ) → P j → DigitsPlaced f g P (Natural v (f j)) (Natural v (g j))
+  none : DigitsPlaced f g P NoDigits NoDigits
 
-pub data DigitsMoved (p q m : ℕ) : Digits → Digits → Type 0 where
-  naturals : (v j : ℕ) → j ≤ m → DigitsMoved p q m (Natural v (p + j)) (Natural v (q + j))
-  none : DigitsMoved p q m NoDigits NoDigits
-
-pub data NumberMoved (p q m : ℕ) : Number → Number → Type 0 where
-  numbers : (v : ℤ) (j : ℕ) → j ≤ m → NumberMoved p q m (Got v (p + j)) (Got v (q + j))
-  bad : NumberMoved p q m Bad Bad
+data NumberPlaced (f g : ℕ → ℕ) (P : ℕ → Type 0) : Number → Number → Type 0 where
+  numbers : (v : ℤ) (j : ℕ) → P j → NumberPlaced f g P (Got v (f j)) (Got v (g j))
+  bad : NumberPlaced f g P Bad Bad
 
 pub never-at : {i : ℕ} → Wrong ≡ At i → ⊥
-never-at e = let z : _≡_ {A = ℕ} 0 1 = cc in omega arith
+never-at e = impossible cc
 
 -- a place behind two readings, one after the other: the first has one
 pub went : (x : Next) (f : ℕ → Next) (k : ℕ) → andThen x f ≡ At k → (i : ℕ) × (x ≡ At i)
 went (At i) f k e = (i, refl)
 went Wrong f k e = absurd (never-at e)
 
--- two readings at one place
-pub unmoved : {m : ℕ} {x y : Next} → Moved 0 0 m x y → x ≡ y
-unmoved (both j l) = refl
-unmoved neither = refl
-
-pub unmoved-within : {m : ℕ} {x y : Next} (k : ℕ) → Moved 0 0 m x y → x ≡ At k → k ≤ m
-unmoved-within k (both j l) e = let same : 0 + j ≡ k = cc in omega arith
-unmoved-within k neither e = absurd (never-at e)
-
 -- two choices by one test
 pub choose : {A : Type 0} (R : A → A → Type 0) (x : Bool) {a b c d : A} → (x ≡ true → R a b) → (x ≡ false → R c d) → R (if x then a else c) (if x then b else d)
 choose R true f g = f refl
 choose R false f g = g refl
 
-module _ {p q m : ℕ} where
-  pub moved-then : {a b : Next} {k : ℕ} (f g : ℕ → Next) → Moved p q m a b → ((j : ℕ) → j ≤ m → Moved p q k (f (p + j)) (g (q + j)))
-      → Moved p q k (andThen a f) (andThen b g)
-  moved-then f g (both j h) r = r j h
-  moved-then f g neither r = neither
+-- two readings at one place
+pub unmoved : {f : ℕ → ℕ} {P : ℕ → Type 0} {x y : Next} → Placed f f P x y → x ≡ y
+unmoved (both j l) = refl
+unmoved neither = refl
 
-  moved-plain : {a b : Digits} → DigitsMoved p q m a b → NumberMoved p q m (plain a) (plain b)
-  moved-plain (naturals v j h) = numbers (pos v) j h
+module _ {f g : ℕ → ℕ} {P : ℕ → Type 0} where
+  pub moved-then : {Q : ℕ → Type 0} {a b : Next} (h k : ℕ → Next) → Placed f g P a b → ((j : ℕ) → P j → Placed f g Q (h (f j)) (k (g j)))
+      → Placed f g Q (andThen a h) (andThen b k)
+  moved-then h k (both j l) r = r j l
+  moved-then h k neither r = neither
+
+  moved-plain : {a b : Digits} → DigitsPlaced f g P a b → NumberPlaced f g P (plain a) (plain b)
+  moved-plain (naturals v j l) = numbers (pos v) j l
   moved-plain none = bad
 
-  moved-negative : {a b : Digits} → DigitsMoved p q m a b → NumberMoved p q m (negative a) (negative b)
-  moved-negative (naturals v j h) = choose (NumberMoved p q m) (eqb v 0) (λ e. bad) (λ e. numbers (negℤ (pos v)) j h)
+  moved-negative : {a b : Digits} → DigitsPlaced f g P a b → NumberPlaced f g P (negative a) (negative b)
+  moved-negative (naturals v j l) = choose (NumberPlaced f g P) (eqb v 0) (λ e. bad) (λ e. numbers (negℤ (pos v)) j l)
   moved-negative none = bad
 
-  moved-place : {a b : Number} → NumberMoved p q m a b → Moved p q m (placeOf a) (placeOf b)
-  moved-place (numbers v j h) = both j h
-  moved-place bad = neither
+  moved-next : {a b : Number} → NumberPlaced f g P a b → Placed f g P (nextOf a) (nextOf b)
+  moved-next (numbers v j l) = both j l
+  moved-next bad = neither
 
-  moved-value : {a b : Number} → NumberMoved p q m a b → valueOf a ≡ valueOf b
-  moved-value (numbers v j h) = refl
+  moved-value : {a b : Number} → NumberPlaced f g P a b → valueOf a ≡ valueOf b
+  moved-value (numbers v j l) = refl
   moved-value bad = refl
 
 -- ---- bytes that end no line
@@ -108,6 +101,133 @@ printed-first k ks e = not-true (closing k) (and-left (not (closing k)) (printed
 pub key-printed : (k : ℕ) → printed (keyOf k) ≡ true
 key-printed k = table-all printed keys k refl refl
 
+-- no key is longer than eight bytes
+pub key-short : (k : ℕ) → length (keyOf k) ≤ 8
+key-short k = leb-true (length (keyOf k)) 8 (table-all (λ key. leb (length key) 8) keys k refl refl)
+
+-- ---- a stretch of bytes that two texts share: its i-th byte stands at f i in the one and at g i in the other. `In w i` says that from the
+-- i-th on as many as w may be read: such a byte is the same in both, and behind one that ends no line a byte less may be read
+
+pub record Stretch (s t : List ℕ) (f g : ℕ → ℕ) (In : ℕ → ℕ → Type 0) : Type 0 where
+  pub next : (i : ℕ) → (f (i + 1) ≡ f i + 1) × (g (i + 1) ≡ g i + 1)
+  pub fewer : (v w i : ℕ) → v ≤ w → In w i → In v i
+  pub same : (w i : ℕ) → 0 < w → In w i → byteAt s (f i) ≡ byteAt t (g i)
+  pub on : (v w i : ℕ) → v < w → In w i → closing (byteAt s (f i)) ≡ false → In v (i + 1)
+
+-- the readings, from the i-th byte on: a number has at most 8 bytes, a field 16
+module _ {s t : List ℕ} {f g : ℕ → ℕ} {In : ℕ → ℕ → Type 0} (o : Stretch s t f g In) where
+  -- ---- digits and numbers
+  pub digit-placed : (w i : ℕ) → 0 < w → In w i → digitAt t (g i) ≡ digitAt s (f i)
+  unfolding digitAt
+  digit-placed w i u h = ap digitOf (sym (o .same w i u h))
+
+  digit-further : (v w i : ℕ) → v < w → In w i → (digitAt s (f i) ≡ 10 → ⊥) → In v (i + 1)
+  unfolding digitAt
+  digit-further v w i u h e = o .on v w i u h (digit-open (byteAt s (f i)) e)
+
+  more-placed : (left n v w i : ℕ) → v + left ≤ w → In w i → DigitsPlaced f g (In v) (moreDigits left n s (f i)) (moreDigits left n t (g i))
+  unfolding moreDigits
+  more-placed zero n v w i u h = naturals n i (o .fewer v w i (omega arith) h)
+  more-placed (suc left) n v w i u h =
+      rw (digit-placed w i (omega arith) h, ← o .next i .0, ← o .next i .1)
+      (choose (DigitsPlaced f g (In v)) (eqb (digitAt s (f i)) 10)
+      (λ e. naturals n i (o .fewer v w i (omega arith) h))
+      (λ e. more-placed left _ v (v + left) (i + 1) (omega arith) (digit-further (v + left) w i (omega arith) h (eqb-false _ _ e))))
+
+  natural-placed : (v w i : ℕ) → v + 7 ≤ w → In w i → DigitsPlaced f g (In v) (naturalAt s (f i)) (naturalAt t (g i))
+  unfolding naturalAt
+  natural-placed v w i u h =
+      rw (digit-placed w i (omega arith) h, ← o .next i .0, ← o .next i .1)
+      (choose (DigitsPlaced f g (In v)) (eqb (digitAt s (f i)) 10)
+      (λ e. none)
+      (λ e. choose (DigitsPlaced f g (In v)) (eqb (digitAt s (f i)) 0)
+      (λ z. naturals 0 (i + 1) (digit-further v w i (omega arith) h (eqb-false _ _ e)))
+      (λ z. more-placed 6 _ v (v + 6) (i + 1) (omega arith) (digit-further (v + 6) w i (omega arith) h (eqb-false _ _ e)))))
+
+  minus-further : (v w i : ℕ) → v < w → In w i → eqb (byteAt s (f i)) 45 ≡ true → In v (i + 1)
+  minus-further v w i u h e = o .on v w i u h (ap closing (eqb-true (byteAt s (f i)) 45 e))
+
+  number-placed : (v w i : ℕ) → v + 8 ≤ w → In w i → NumberPlaced f g (In v) (numberAt s (f i)) (numberAt t (g i))
+  unfolding numberAt
+  number-placed v w i u h =
+      rw (← o .same w i (omega arith) h, ← o .next i .0, ← o .next i .1)
+      (choose (NumberPlaced f g (In v)) (eqb (byteAt s (f i)) 45)
+      (λ e. moved-negative (natural-placed v (v + 7) (i + 1) (omega arith) (minus-further (v + 7) w i (omega arith) h e)))
+      (λ e. moved-plain (natural-placed v w i (omega arith) h)))
+
+  -- ---- keys and fields
+  pub key-placed : (key : List ℕ) → printed key ≡ true → (v w i : ℕ) → v + length key ≤ w → In w i
+      → Placed f g (In v) (keyAt key s (f i)) (keyAt key t (g i))
+  unfolding keyAt
+  key-placed [] e v w i u h = both i (o .fewer v w i (omega arith) h)
+  key-placed (k ∷ ks) e v w i u h =
+      rw (← o .same w i (omega arith) h, ← o .next i .0, ← o .next i .1)
+      (choose (Placed f g (In v)) (eqb (byteAt s (f i)) k)
+      (λ z. key-placed ks (and-right (not (closing k)) (printed ks) e) v (v + length ks) (i + 1) (omega arith)
+      (o .on (v + length ks) w i (omega arith) h (ap closing (eqb-true (byteAt s (f i)) k z) ∙ printed-first k ks e)))
+      (λ z. neither))
+
+  or-placed : {a b : Number} (v w i : ℕ) → v < w → In w i → NumberPlaced f g (In v) a b
+      → NumberPlaced f g (In v) (orMissing a s (f i)) (orMissing b t (g i))
+  or-placed v w i u h (numbers n j l) = numbers n j l
+  or-placed v w i u h bad =
+      rw (← o .same w i (omega arith) h, ← o .next i .0, ← o .next i .1)
+      (choose (NumberPlaced f g (In v)) (eqb (byteAt s (f i)) 45) (λ e. numbers missing (i + 1) (minus-further v w i u h e)) (λ e. bad))
+
+  value-placed : (k v w i : ℕ) → v + 8 ≤ w → In w i → NumberPlaced f g (In v) (valueAt k s (f i)) (valueAt k t (g i))
+  unfolding valueAt
+  value-placed k v w i u h =
+      let n = number-placed v w i u h in
+      choose (NumberPlaced f g (In v)) (mayMiss k) (λ e. or-placed v w i (omega arith) h n) (λ e. n)
+
+  field-placed : (k v w i : ℕ) → v + 16 ≤ w → In w i → NumberPlaced f g (In v) (fieldAt k s (f i)) (fieldAt k t (g i))
+  unfolding fieldAt
+  field-placed k v w i u h = go (key-placed (keyOf k) (key-printed k) (v + 8) w i (omega (arith, key-short k)) h)
+    where
+      go : {a b : Next} → Placed f g (In (v + 8)) a b → NumberPlaced f g (In v) (valueAfter k s a) (valueAfter k t b)
+      go (both j l) = value-placed k v (v + 8) j (omega arith) l
+      go neither = bad
+
+  pub fields-placed : (first n v w i : ℕ) → v + n * 16 ≤ w → In w i → Placed f g (In v) (afterFields first n s (f i)) (afterFields first n t (g i))
+  unfolding afterFields
+  fields-placed first zero v w i u h = both i (o .fewer v w i (omega arith) h)
+  fields-placed first (suc n) v w i u h =
+      moved-then _ _ (fields-placed first n (v + 16) w i (omega arith) h) (λ j l. moved-next (field-placed (first + n) v (v + 16) j (omega arith) l))
+
+  pub values-placed : (first n w i : ℕ) → n * 16 + 16 ≤ w → In w i → valueIn first s (f i) n ≡ valueIn first t (g i) n
+  unfolding valueIn
+  values-placed first n w i u h = go (fields-placed first n 16 w i (omega arith) h)
+    where
+      go : {a b : Next} → Placed f g (In 16) a b → valueFrom (first + n) s a ≡ valueFrom (first + n) t b
+      go (both j l) = moved-value (field-placed (first + n) 0 16 j (omega arith) l)
+      go neither = refl
+
+  -- ---- the end of the line
+  pub feed-placed : {Q : ℕ → Type 0} (w i : ℕ) → 0 < w → In w i → (byteAt s (f i) ≡ 10 → Q (i + 1)) → Placed f g Q (lineFeed s (f i)) (lineFeed t (g i))
+  unfolding keyAt
+  feed-placed {Q} w i u h r =
+      rw (← o .same w i u h, ← o .next i .0, ← o .next i .1)
+      (choose (Placed f g Q) (eqb (byteAt s (f i)) 10) (λ e. both (i + 1) (r (eqb-true _ _ e))) (λ e. neither))
+
+  pub line-placed : {Q : ℕ → Type 0} (first n v w i : ℕ) → v + n * 16 + 1 ≤ w → In w i → ((j : ℕ) → In (v + 1) j → byteAt s (f j) ≡ 10 → Q (j + 1))
+      → Placed f g Q (lineAt first n s (f i)) (lineAt first n t (g i))
+  unfolding lineAt
+  line-placed first n v w i u h r = moved-then _ _ (fields-placed first n (v + 1) w i (omega arith) h) (λ j l. feed-placed (v + 1) j (omega arith) l (r j l))
+
+-- ---- a stretch up to a line's end: whatever is read of a line stays in front of that
+
+-- the bytes from p of s and from q of t on are the same up to the m-th, which ends a line
+pub record Along (s t : List ℕ) (p q m : ℕ) : Type 0 where
+  pub same : (i : ℕ) → i ≤ m → byteAt s (p + i) ≡ byteAt t (q + i)
+  pub stop : closing (byteAt s (p + m)) ≡ true
+
+abbrev pub Moved : (p q m : ℕ) → Next → Next → Type 0
+Moved p q m = Placed (λ j. p + j) (λ j. q + j) (λ j. j ≤ m)
+
+pub unmoved-within : {m : ℕ} {x y : Next} (k : ℕ) → Moved 0 0 m x y → x ≡ At k → k ≤ m
+unmoved-within k (both j l) e = let same : 0 + j ≡ k = cc in omega arith
+unmoved-within k neither e = absurd (never-at e)
+
 module _ {s t : List ℕ} {p q m : ℕ} (o : Along s t p q m) where
   -- a byte that ends no line stands before the m-th
   goes-on : (i : ℕ) → i ≤ m → closing (byteAt s (p + i)) ≡ false → i + 1 ≤ m
@@ -119,82 +239,25 @@ module _ {s t : List ℕ} {p q m : ℕ} (o : Along s t p q m) where
           let last : i ≡ m = omega arith in
           absurd (false≢true (sym e ∙ ap (λ (n : ℕ). closing (byteAt s (p + n))) last ∙ o .stop))
 
-  -- ---- digits and numbers
+  pub stretch : Stretch s t (λ i. p + i) (λ i. q + i) (λ w i. i ≤ m)
+  stretch = record {
+    next = λ i. (sym (add-assoc p i 1), sym (add-assoc q i 1));
+    fewer = λ v w i u h. h;
+    same = λ w i u h. o .same i h;
+    on = λ v w i u h e. goes-on i h e;
+  }
+
   pub digit-same : (i : ℕ) → i ≤ m → digitAt t (q + i) ≡ digitAt s (p + i)
-  unfolding digitAt
-  digit-same i h = ap digitOf (sym (o .same i h))
+  digit-same i h = digit-placed stretch 1 i (omega arith) h
 
   pub digit-on : (i : ℕ) → i ≤ m → (digitAt s (p + i) ≡ 10 → ⊥) → i + 1 ≤ m
-  unfolding digitAt
-  digit-on i h e = goes-on i h (digit-open (byteAt s (p + i)) e)
+  digit-on i h e = digit-further stretch 0 1 i (omega arith) h e
 
-  more-along : (left v i : ℕ) → i ≤ m → DigitsMoved p q m (moreDigits left v s (p + i)) (moreDigits left v t (q + i))
-  unfolding moreDigits
-  more-along zero v i h = naturals v i h
-  more-along (suc left) v i h =
-      rw (digit-same i h)
-      (choose (DigitsMoved p q m) (eqb (digitAt s (p + i)) 10)
-      (λ e. naturals v i h)
-      (λ e. rw (add-assoc p i 1, add-assoc q i 1) (more-along left _ (i + 1) (digit-on i h (eqb-false _ _ e)))))
-
-  natural-along : (i : ℕ) → i ≤ m → DigitsMoved p q m (naturalAt s (p + i)) (naturalAt t (q + i))
-  unfolding naturalAt
-  natural-along i h =
-      rw (digit-same i h, add-assoc p i 1, add-assoc q i 1)
-      (choose (DigitsMoved p q m) (eqb (digitAt s (p + i)) 10)
-      (λ e. none)
-      (λ e. choose (DigitsMoved p q m) (eqb (digitAt s (p + i)) 0)
-      (λ z. naturals 0 (i + 1) (digit-on i h (eqb-false _ _ e)))
-      (λ z. more-along 6 _ (i + 1) (digit-on i h (eqb-false _ _ e)))))
-
-  minus-on : (i : ℕ) → i ≤ m → eqb (byteAt s (p + i)) 45 ≡ true → i + 1 ≤ m
-  minus-on i h e = goes-on i h (ap closing (eqb-true (byteAt s (p + i)) 45 e))
-
-  number-along : (i : ℕ) → i ≤ m → NumberMoved p q m (numberAt s (p + i)) (numberAt t (q + i))
-  unfolding numberAt
-  number-along i h =
-      rw (← o .same i h, add-assoc p i 1, add-assoc q i 1)
-      (choose (NumberMoved p q m) (eqb (byteAt s (p + i)) 45)
-      (λ e. moved-negative (natural-along (i + 1) (minus-on i h e)))
-      (λ e. moved-plain (natural-along i h)))
-
-  -- ---- keys and fields
   pub key-along : (key : List ℕ) → printed key ≡ true → (i : ℕ) → i ≤ m → Moved p q m (keyAt key s (p + i)) (keyAt key t (q + i))
-  unfolding keyAt
-  key-along [] e i h = both i h
-  key-along (k ∷ ks) e i h =
-      rw (← o .same i h, add-assoc p i 1, add-assoc q i 1)
-      (choose (Moved p q m) (eqb (byteAt s (p + i)) k)
-      (λ z. key-along ks (and-right (not (closing k)) (printed ks) e) (i + 1) (goes-on i h (ap closing (eqb-true (byteAt s (p + i)) k z) ∙ printed-first k ks e)))
-      (λ z. neither))
-
-  or-along : {a b : Number} → NumberMoved p q m a b → (i : ℕ) → i ≤ m → NumberMoved p q m (orMissing a s (p + i)) (orMissing b t (q + i))
-  or-along (numbers v j l) i h = numbers v j l
-  or-along bad i h =
-      rw (← o .same i h, add-assoc p i 1, add-assoc q i 1)
-      (choose (NumberMoved p q m) (eqb (byteAt s (p + i)) 45) (λ e. numbers missing (i + 1) (minus-on i h e)) (λ e. bad))
-
-  value-along : (k i : ℕ) → i ≤ m → NumberMoved p q m (valueAt k s (p + i)) (valueAt k t (q + i))
-  unfolding valueAt
-  value-along k i h = choose (NumberMoved p q m) (eqb k 23) (λ e. or-along (number-along i h) i h) (λ e. number-along i h)
-
-  after-along : (k : ℕ) {a b : Next} → Moved p q m a b → NumberMoved p q m (valueAfter k s a) (valueAfter k t b)
-  after-along k (both j h) = value-along k j h
-  after-along k neither = bad
-
-  field-along : (k i : ℕ) → i ≤ m → NumberMoved p q m (fieldAt k s (p + i)) (fieldAt k t (q + i))
-  unfolding fieldAt
-  field-along k i h = after-along k (key-along (keyOf k) (key-printed k) i h)
+  key-along key e i h = key-placed stretch key e 0 (length key) i (omega arith) h
 
   pub fields-along : (first n i : ℕ) → i ≤ m → Moved p q m (afterFields first n s (p + i)) (afterFields first n t (q + i))
-  unfolding afterFields
-  fields-along first zero i h = both i h
-  fields-along first (suc n) i h = moved-then _ _ (fields-along first n i h) (λ j l. moved-place (field-along (first + n) j l))
-
-  from-along : (k : ℕ) {a b : Next} → Moved p q m a b → valueFrom k s a ≡ valueFrom k t b
-  from-along k (both j h) = moved-value (field-along k j h)
-  from-along k neither = refl
+  fields-along first n i h = fields-placed stretch first n 0 (n * 16) i (omega arith) h
 
   pub values-along : (first n i : ℕ) → i ≤ m → valueIn first s (p + i) n ≡ valueIn first t (q + i) n
-  unfolding valueIn
-  values-along first n i h = from-along (first + n) (fields-along first n i h)
+  values-along first n i h = values-placed stretch first n (n * 16 + 16) i (omega arith) h

@@ -1,15 +1,19 @@
 -- The first empty line of a text: byte by byte as the code looks for it, and what stands behind it.
 use mathlib.Core.Path.{_≡_, refl, sym, ap, _∙_}
-use mathlib.Core.Bool.{Bool, true, false}
+use mathlib.Core.Bool.{Bool, true, false, false≢true}
 use mathlib.Core.List.{List, [], _∷_}
 use Prim.Native.Nat.{ℕ, _+_, _≤_, _<_}
 use native.Mathlib.Numerals.{add-one}
 use native.Mathlib.Nat.{add-zero, add-assoc}
 use native.Mathlib.Omega.{arith}
-use lib.Dec.{eqb}
+use borrow.Author.Tests.{eqb-true}
+use lib.Dec.{eqb, lit<}
 use lib.ListN.{length, getD, drop, length-drop, drop-of-length-le}
 use lib.Seq.{drop-cons, drop-drop}
 use Rattle.exact.specs.Choice.{if_then_else_}
+use Rattle.exact.proofs.Parts.{by-test}
+use Rattle.text.specs.Text.{byteAt}
+use Rattle.text.proofs.Numbers.{byte-inside}
 use Rattle.text.specs.declared.Next.{Next}
 use Rattle.text.specs.declared.Next.the-variants.{At, Wrong}
 use Rattle.lines.specs.Cut.{emptyIn, behindPlace, behind}
@@ -37,35 +41,40 @@ module _ (s : List ℕ) (i : ℕ) where
   unfolding emptyIn
   never-empty start h = rw (drop-of-length-le s h)
 
--- ---- where it is: behind the place from which it was looked for, and in the text
-data Lies (low high : ℕ) : Next → Type 0 where
-  lies : (j : ℕ) → low < j → j ≤ high → Lies low high (At j)
-  nowhere : Lies low high Wrong
+-- ---- where the first empty line of the bytes t ends: behind its line feed, which is the first byte or stands behind another
 
-lies-on : {low high : ℕ} {x : Next} → Lies (low + 1) high x → Lies low high x
-lies-on (lies j l h) = lies j (omega arith) h
-lies-on nowhere = nowhere
+pub data EmptyAt (start : Bool) (t : List ℕ) (i j : ℕ) : Type 0 where
+  at-once : start ≡ true → byteAt t 0 ≡ 10 → j ≡ i + 1 → EmptyAt start t i j
+  behind-line : (m : ℕ) → byteAt t m ≡ 10 → byteAt t (m + 1) ≡ 10 → j ≡ i + (m + 2) → EmptyAt start t i j
 
-lies-both : {low high : ℕ} {x y : Next} (b : Bool) → Lies low high x → Lies low high y → Lies low high (if b then x else y)
-lies-both true p q = p
-lies-both false p q = q
+further : (start : Bool) (b : ℕ) (t : List ℕ) (i j : ℕ) → EmptyAt false t (i + 1) j → EmptyAt start (b ∷ t) i j
+further start b t i j (at-once e f h) = absurd (false≢true e)
+further start b t i j (behind-line m f g h) = behind-line (m + 1) (rw (add-one m) f) (rw (add-one (m + 1)) g) (omega arith)
 
-empty-lies : (start : Bool) (t : List ℕ) (i : ℕ) → Lies i (i + length t) (emptyIn start t i)
+begun : (start : Bool) (b : ℕ) (t : List ℕ) (i j : ℕ) → b ≡ 10 → EmptyAt true t (i + 1) j → EmptyAt start (b ∷ t) i j
+begun start b t i j e (at-once s f h) = behind-line 0 e f (omega arith)
+begun start b t i j e (behind-line m f g h) = further start b t i j (behind-line m f g h)
+
+pub empty-found : (start : Bool) (t : List ℕ) (i j : ℕ) → emptyIn start t i ≡ At j → EmptyAt start t i j
 unfolding emptyIn
-empty-lies start [] i = nowhere
-empty-lies start (b ∷ t) i =
-    let e : i + length (b ∷ t) ≡ i + 1 + length t = omega arith in
-    rw e
-    (lies-both (eqb b 10)
-    (lies-both start (lies (i + 1) (omega arith) (omega arith)) (lies-on (empty-lies true t (i + 1))))
-    (lies-on (empty-lies false t (i + 1))))
-
-pub behind-range : (s : List ℕ) (at i : ℕ) (start : Bool) → emptyIn start (drop at s) at ≡ At i → (at < i) × (i ≤ length s)
-behind-range s at i start = go (empty-lies start (drop at s) at)
+empty-found start [] i j = λ e. absurd (never-at e)
+empty-found start (b ∷ t) i j =
+    by-test (eqb b 10) (λ x. (if x then (if start then At (i + 1) else emptyIn true t (i + 1)) else emptyIn false t (i + 1)) ≡ At j → EmptyAt start (b ∷ t) i j)
+    (λ h. feed start (eqb-true b 10 h) (empty-found true t (i + 1) j))
+    (λ h e. further start b t i j (empty-found false t (i + 1) j e))
   where
-    go : {x : Next} → Lies at (at + length (drop at s)) x → x ≡ At i → (at < i) × (i ≤ length s)
-    go (lies j l h) e = let same : j ≡ i = cc in (omega arith, omega (arith, length-drop at s))
-    go nowhere e = absurd (never-at e)
+    feed : (x : Bool) → b ≡ 10 → (emptyIn true t (i + 1) ≡ At j → EmptyAt true t (i + 1) j)
+        → (if x then At (i + 1) else emptyIn true t (i + 1)) ≡ At j → EmptyAt x (b ∷ t) i j
+    feed true h f e = at-once refl h (cc)
+    feed false h f e = begun false b t i j h (f e)
+
+-- so behind the place from which it was looked for, and in the text
+pub behind-range : (s : List ℕ) (at i : ℕ) (start : Bool) → emptyIn start (drop at s) at ≡ At i → (at < i) × (i ≤ length s)
+behind-range s at i start e = go (empty-found start (drop at s) at i e)
+  where
+    go : EmptyAt start (drop at s) at i → (at < i) × (i ≤ length s)
+    go (at-once b f h) = let inside = byte-inside (drop at s) 0 10 f (lit< tt) in (omega arith, omega (arith, length-drop at s))
+    go (behind-line m f g h) = let inside = byte-inside (drop at s) (m + 1) 10 g (lit< tt) in (omega arith, omega (arith, length-drop at s))
 
 -- ---- the same bytes at another place
 abbrev moved : ℕ → Next → Next

@@ -1,10 +1,11 @@
--- Two texts with the same bytes, each from a place of its own on, up to the end of a block: its lines are read as the same.
+-- Where lines and blocks end: a line that is read ends with its line feed, where it ends no key stands, and two texts may be the same up to
+-- where a block of both ends.
 use mathlib.Core.Path.{_≡_, refl, sym, ap, _∙_}
 use mathlib.Core.Bool.{Bool, true, false, not, false≢true}
 use mathlib.Core.List.{List, [], _∷_, _++_}
 use Prim.Native.Nat.{ℕ, zero, suc, _+_, _≤_, _<_}
 use native.Mathlib.Decide.{decLe, decLt}
-use native.Mathlib.Nat.{add-zero, zero-add, add-assoc}
+use native.Mathlib.Nat.{add-zero, zero-add}
 use native.Mathlib.Omega.{arith}
 use borrow.Author.Tests.{eqb-true, ne-eqb, not-true}
 use lib.Dec.{eqb}
@@ -18,8 +19,8 @@ use Rattle.text.specs.declared.Number.the-variants.{Bad}
 use Rattle.text.specs.declared.Next.{Next}
 use Rattle.text.specs.declared.Next.the-variants.{At, Wrong}
 use Rattle.keys.specs.Keys.{keyOf}
-use Rattle.lines.specs.Line.{placeIn, fieldAt, andThen, afterFields, valueIn, lineFeed, lineAt, closes}
-use Rattle.lines.proofs.Along.{closing, Along, Moved, both, neither, choose, never-at, moved-then, fields-along, values-along}
+use Rattle.lines.specs.Line.{placeIn, fieldAt, andThen, afterFields, valueIn, lineFeed, lineAt}
+use Rattle.lines.proofs.Along.{closing, never-at, feed-placed, Along, Moved, stretch}
 
 -- a line feed that is found
 pub feed-ends : (s : List ℕ) (x k : ℕ) → lineFeed s x ≡ At k → (byteAt s x ≡ 10) × (x + 1 ≡ k)
@@ -82,22 +83,14 @@ module _ (s : List ℕ) (at : ℕ) (c : closing (byteAt s at) ≡ true) where
   unfolding lineAt
   line-closed first n e = rw (fields-closed first n e)
 
-  values-closed : (first n : ℕ) → opens (keyOf first) ≡ true → valueIn first s at n ≡ pos 0
+  pub values-closed : (first n : ℕ) → opens (keyOf first) ≡ true → valueIn first s at n ≡ pos 0
   unfolding valueIn afterFields
   values-closed first zero e = rw (add-zero first, field-closed first e)
   values-closed first (suc n) e = rw (fields-closed first n e)
 
--- ---- lines, from the same bytes on
-module _ {s t : List ℕ} {p q m : ℕ} (o : Along s t p q m) where
-  pub feed-along : (i : ℕ) → i ≤ m → Moved p q (m + 1) (lineFeed s (p + i)) (lineFeed t (q + i))
-  unfolding keyAt
-  feed-along i h =
-      rw (← o .same i h, add-assoc p i 1, add-assoc q i 1)
-      (choose (Moved p q (m + 1)) (eqb (byteAt s (p + i)) 10) (λ e. both (i + 1) (omega arith)) (λ e. neither))
-
-  line-along : (first n i : ℕ) → i ≤ m → Moved p q (m + 1) (lineAt first n s (p + i)) (lineAt first n t (q + i))
-  unfolding lineAt
-  line-along first n i h = moved-then _ _ (fields-along o first n i h) feed-along
+-- ---- two texts that are the same up to a line's end
+pub feed-along : {s t : List ℕ} {p q m : ℕ} → Along s t p q m → (i : ℕ) → i ≤ m → Moved p q (m + 1) (lineFeed s (p + i)) (lineFeed t (q + i))
+feed-along o i h = feed-placed (stretch o) 1 i (omega arith) h (λ e. omega arith)
 
 -- ---- and up to where both blocks end: that is their end, whatever follows
 pub record Ended (s t : List ℕ) (p q m : ℕ) : Type 0 where
@@ -115,24 +108,6 @@ module _ {s t : List ℕ} {p q m : ℕ} (o : Ended s t p q m) where
       go : Dec (i ≤ m) → P i
       go (yes l) = f i l
       go (no l) = let e : i ≡ m + 1 = omega arith in rw e r
-
-  pub line-ended : (first n : ℕ) → opens (keyOf first) ≡ true → (i : ℕ) → i ≤ m + 1
-      → Moved p q (m + 1) (lineAt first (suc n) s (p + i)) (lineAt first (suc n) t (q + i))
-  unfolding lineAt
-  line-ended first n e i h = last-or (λ j. Moved p q (m + 1) (lineAt first (suc n) s (p + j)) (lineAt first (suc n) t (q + j))) i h
-      (line-along (o .along) first (suc n))
-      (rw (fields-closed s _ (o .one) first n e, fields-closed t _ (o .other) first n e) neither)
-
-  pub values-ended : (first n : ℕ) → opens (keyOf first) ≡ true → (i : ℕ) → i ≤ m + 1 → valueIn first s (p + i) n ≡ valueIn first t (q + i) n
-  values-ended first n e i h = last-or (λ j. valueIn first s (p + j) n ≡ valueIn first t (q + j) n) i h
-      (λ j l. values-along (o .along) first n j l)
-      (values-closed s _ (o .one) first n e ∙ sym (values-closed t _ (o .other) first n e))
-
-  pub closes-ended : (i : ℕ) → i ≤ m + 1 → closes s (p + i) ≡ closes t (q + i)
-  unfolding closes
-  closes-ended i h = last-or (λ j. closing (byteAt s (p + j)) ≡ closing (byteAt t (q + j))) i h
-      (λ j l. ap closing (o .along .same j l))
-      (o .one ∙ sym (o .other))
 
 -- ---- an empty line, and the end of the text
 module _ (front behind : List ℕ) where

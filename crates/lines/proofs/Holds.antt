@@ -5,15 +5,17 @@ use Prim.Native.Nat.{ℕ, zero, suc, _+_, _-_, _*_, _/_, _%_, _^_, _≤_, _<_}
 use native.Mathlib.Nat.{add-zero, add-assoc, pow-suc}
 use native.Mathlib.Omega.{arith}
 use borrow.Author.Tests.{eq-eqb, ne-eqb, le-ltb, ltb-true, ltb-false}
-use lib.Dec.{eqb, ltb}
+use lib.Dec.{ltb}
 use lib.IntN.{ℤ, pos, negsuc}
 use lib.ListN.{length, length-append}
 use lib.Seq.{append-snoc, getD-append-seam}
 use Rattle.exact.specs.Choice.{if_then_else_}
 use Rattle.exact.specs.Whole.{Within}
+use Rattle.exact.proofs.Apart.{impossible}
 use Rattle.exact.proofs.Parts.{by-test}
 use Rattle.text.specs.Text.{byteAt, keyAt}
 use Rattle.text.specs.Number.{digitOf, digitAt, moreDigits, naturalAt, numberAt, missing}
+use Rattle.keys.specs.Keys.{UOL, mayMiss}
 use Rattle.lines.specs.Line.{orMissing, valueAt}
 use Rattle.text.specs.Decimal.{natural, number}
 use Rattle.text.specs.declared.digits.Digits.the-variants.{Natural, NoDigits}
@@ -111,8 +113,7 @@ module _ (s : List ℕ) where
   unfolding naturalAt digitAt
   no-minus at v next e m =
       let q : naturalAt s at ≡ NoDigits = rw m in
-      let z : _≡_ {A = ℕ} 0 1 = cc in
-      omega arith
+      impossible cc
 
 -- the text x behind key k says z
 abbrev pub Says : ℕ → List ℕ → ℤ → Type 0
@@ -120,7 +121,7 @@ Says k x z = (s : List ℕ) (at : ℕ) → Holds s at x → digitAt s (at + leng
 
 value-said : (k : ℕ) (s : List ℕ) (at : ℕ) (z : ℤ) (next : ℕ) → numberAt s at ≡ Got z next → valueAt k s at ≡ Got z next
 unfolding valueAt
-value-said k s at z next e = by-test (eqb k 23) (λ b. (if b then orMissing (numberAt s at) s at else numberAt s at) ≡ Got z next) (λ t. rw e) (λ t. e)
+value-said k s at z next e = by-test (mayMiss k) (λ b. (if b then orMissing (numberAt s at) s at else numberAt s at) ≡ Got z next) (λ t. rw e) (λ t. e)
 
 module _ (s : List ℕ) (at : ℕ) where
   positive-said : (n next : ℕ) → naturalAt s at ≡ Natural n next → numberAt s at ≡ Got (pos n) next
@@ -141,7 +142,7 @@ number-said k (negsuc n) w s at o e =
     let q : at + 1 + length (natural 7 (suc n)) ≡ at + suc (length (natural 7 (suc n))) = omega arith in
     value-said k s at (negsuc n) _ (negative-said s at n _ (o .0) (natural-said s (suc n) (at + 1) (omega arith) (omega arith) (o .1) (rw q e) ∙ ap (Natural (suc n)) q))
 
--- only `uol`, which is key 23, may be missing
-pub missing-said : Says 23 (45 ∷ []) missing
+-- only `uol` may be missing
+pub missing-said : Says UOL (45 ∷ []) missing
 unfolding valueAt numberAt naturalAt
 missing-said s at o e = let m = eq-eqb (byteAt s at) 45 (o .0) in rw (m, e, m)

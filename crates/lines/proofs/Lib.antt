@@ -2,12 +2,12 @@
 pub mod Fill
 pub mod Lines
 pub mod Whole
-pub mod Rows
-pub mod Agree
-pub mod RowsAgree
+pub mod Series
 pub mod Along
 pub mod Ended
-pub mod RowsEnded
+pub mod Shared
+pub mod Agree
+pub mod SeriesShared
 pub mod Cut
 pub mod Passed
 pub mod Pieces

@@ -1,7 +1,7 @@
 -- Keys, fields and lines at a place of a text, step by step as the code reads them.
 use mathlib.Core.Path.{_≡_, refl, sym, ap, ap₂, _∙_, fun-ext}
 use mathlib.Core.Bool.{true, and-false}
-use mathlib.Core.List.{List, []}
+use mathlib.Core.List.{List}
 use Prim.Native.Nat.{ℕ, zero, suc, _+_, _-_, _≤_, _<_}
 use native.Mathlib.Decide.{decLt}
 use native.Mathlib.Numerals.{add-one}
@@ -10,7 +10,7 @@ use native.Mathlib.Omega.{arith}
 use borrow.Author.Tests.{ltb-true, le-leb, lt-leb}
 use lib.Dec.{ltb, leb}
 use lib.IntN.{ℤ, pos}
-use lib.ListN.{getD, set, replicate, List·getD-eq-default}
+use lib.ListN.{getD, set, replicate}
 use Rattle.exact.specs.Choice.{if_then_else_}
 use Rattle.exact.specs.Whole.{upTo}
 use Rattle.exact.proofs.Parts.{by-test}
@@ -19,8 +19,8 @@ use Rattle.text.specs.declared.Number.the-variants.{Got, Bad}
 use Rattle.text.specs.declared.Next.{Next}
 use Rattle.text.specs.declared.Next.the-variants.{At, Wrong}
 use Rattle.lines.specs.declared.Fields.{Fields}
-use Rattle.keys.specs.Keys.{keys, keyOf}
-use Rattle.lines.specs.Line.{valueAfter, fieldAt, placeOf, valueOf, andThen, afterFields, valueIn, filled, isLine, noFields, fieldsAt, lineFeed, lineAt}
+use Rattle.keys.specs.Keys.{KEYS, keyOf}
+use Rattle.lines.specs.Line.{valueAfter, fieldAt, nextOf, valueOf, andThen, afterFields, valueIn, filled, isLine, noFields, fieldsAt, lineFeed, lineAt}
 use Rattle.lines.proofs.Fill.{filled-at, fill-next, fill-rest}
 
 -- ---- a field
@@ -30,14 +30,14 @@ field-after k s at next e = ap (valueAfter k s) e
 
 -- ---- what is a line, and what is none
 module _ (first count : ℕ) where
-  pub is-line : first + count ≤ 58 → count ≤ 20 → isLine first count ≡ true
-  is-line h k = rw (le-leb (first + count) 58 h, le-leb count 20 k)
+  pub is-line : first + count ≤ KEYS → count ≤ 20 → isLine first count ≡ true
+  is-line h k = rw (le-leb (first + count) KEYS h, le-leb count 20 k)
 
   pub too-many : (s : List ℕ) (at : ℕ) → 20 < count → noFields ≡ fieldsAt first count s at
-  too-many s at h = rw (lt-leb count 20 h, and-false (leb (first + count) 58))
+  too-many s at h = rw (lt-leb count 20 h, and-false (leb (first + count) KEYS))
 
-  pub past-table : (s : List ℕ) (at : ℕ) → 58 - count < first → noFields ≡ fieldsAt first count s at
-  past-table s at h = rw (lt-leb (first + count) 58 (omega arith))
+  pub past-table : (s : List ℕ) (at : ℕ) → KEYS - count < first → noFields ≡ fieldsAt first count s at
+  past-table s at h = rw (lt-leb (first + count) KEYS (omega arith))
 
 -- ---- the fields of a line, one by one
 module _ (first : ℕ) (s : List ℕ) (at : ℕ) where
@@ -56,7 +56,7 @@ module _ (first : ℕ) (s : List ℕ) (at : ℕ) where
   stays-wrong n (suc d) e = rw (add-suc n d, stays-wrong n d e)
 
   -- the whole line
-  fields-are : (count : ℕ) (next : Next) (values : List ℤ) → first + count ≤ 58 → count ≤ 20 → next ≡ afterFields first count s at
+  fields-are : (count : ℕ) (next : Next) (values : List ℤ) → first + count ≤ KEYS → count ≤ 20 → next ≡ afterFields first count s at
       → values ≡ filled count 20 (valueIn first s at) (pos 0) → record { next = next; values = values } ≡ fieldsAt first count s at
   fields-are count next values h k p q = rw (is-line first count h k) (ap₂ fieldsOf p q)
     where
@@ -64,7 +64,7 @@ module _ (first : ℕ) (s : List ℕ) (at : ℕ) where
       fieldsOf next values = record { next = next; values = values }
 
   module _ (values : List ℤ) (i n : ℕ) (o : Reading values i n) where
-    place-next : afterFields first (suc n) s at ≡ placeOf (fieldAt (first + n) s i)
+    place-next : afterFields first (suc n) s at ≡ nextOf (fieldAt (first + n) s i)
     unfolding afterFields
     place-next = rw (o .place)
 
@@ -75,7 +75,7 @@ module _ (first : ℕ) (s : List ℕ) (at : ℕ) where
     -- a field more
     pub fields-more : (v : ℤ) (next : ℕ) → n < 20 → fieldAt (first + n) s i ≡ Got v next → Reading (set values n v) next (n + 1)
     fields-more v next h e = record {
-      place = rw (add-one n) (place-next ∙ ap placeOf e);
+      place = rw (add-one n) (place-next ∙ ap nextOf e);
       read = fill-next (valueIn first s at) (pos 0) n 20 h (o .read) (sym (value-next ∙ ap valueOf e));
     }
 
@@ -83,7 +83,7 @@ module _ (first : ℕ) (s : List ℕ) (at : ℕ) where
     wrong-place : (k : ℕ) → n < k → fieldAt (first + n) s i ≡ Bad → afterFields first k s at ≡ Wrong
     wrong-place k h e =
         let q : suc n + (k - suc n) ≡ k = omega arith in
-        ap (λ (m : ℕ). afterFields first m s at) (sym q) ∙ stays-wrong (suc n) (k - suc n) (place-next ∙ ap placeOf e)
+        ap (λ (m : ℕ). afterFields first m s at) (sym q) ∙ stays-wrong (suc n) (k - suc n) (place-next ∙ ap nextOf e)
 
     wrong-value : fieldAt (first + n) s i ≡ Bad → (k : ℕ) → n ≤ k → valueIn first s at k ≡ pos 0
     unfolding valueIn
@@ -93,7 +93,7 @@ module _ (first : ℕ) (s : List ℕ) (at : ℕ) where
         go (yes p) = rw (wrong-place k p e)
         go (no q) = let same : k ≡ n = omega arith in rw same (value-next ∙ ap valueOf e)
 
-    pub fields-wrong : (count : ℕ) → first + count ≤ 58 → count ≤ 20 → n < count → fieldAt (first + n) s i ≡ Bad
+    pub fields-wrong : (count : ℕ) → first + count ≤ KEYS → count ≤ 20 → n < count → fieldAt (first + n) s i ≡ Bad
         → record { next = Wrong; values = values } ≡ fieldsAt first count s at
     fields-wrong count h k l e =
         let all : n + (count - n) ≡ count = omega arith in
@@ -101,7 +101,7 @@ module _ (first : ℕ) (s : List ℕ) (at : ℕ) where
         (o .read ∙ fill-rest (valueIn first s at) (pos 0) n 20 (count - n) (omega arith) (wrong-value e) ∙ rw all)
 
     -- all fields are read
-    pub fields-end : (count : ℕ) → first + count ≤ 58 → count ≤ 20 → n ≡ count → record { next = At i; values = values } ≡ fieldsAt first count s at
+    pub fields-end : (count : ℕ) → first + count ≤ KEYS → count ≤ 20 → n ≡ count → record { next = At i; values = values } ≡ fieldsAt first count s at
     fields-end count h k e = fields-are count (At i) values h k (rw e at (sym (o .place))) (rw e at (o .read))
 
 -- ---- what a line's fields say: the place after them, and each value

@@ -1,24 +1,19 @@
 -- The pieces of a text: where each ends and what stands behind it, and what a text shares with its first piece.
 use mathlib.Core.Path.{_≡_, refl, sym, ap, _∙_}
-use mathlib.Core.Bool.{Bool, true, false, false≢true}
-use mathlib.Core.List.{List, [], _∷_}
+use mathlib.Core.Bool.{true, false}
+use mathlib.Core.List.{List}
 use Prim.Native.Nat.{ℕ, zero, suc, _+_, _-_, _≤_, _<_}
-use native.Mathlib.Numerals.{add-one}
 use native.Mathlib.Nat.{zero-add}
 use native.Mathlib.Omega.{arith}
-use borrow.Author.Tests.{eqb-true}
-use lib.Dec.{eqb}
 use lib.ListN.{length, drop, take, length-drop, drop-of-length-le}
 use lib.Seq.{take-all, drop-cons, drop-length, getD-take}
-use Rattle.exact.specs.Choice.{if_then_else_}
-use Rattle.exact.proofs.Parts.{by-test}
 use Rattle.text.specs.declared.Next.{Next}
 use Rattle.text.specs.declared.Next.the-variants.{At, Wrong}
 use Rattle.text.specs.Text.{byteAt}
 use Rattle.lines.specs.Cut.{emptyIn, behind}
 use Rattle.lines.specs.Pieces.{restAfter, orEnd, pieceAfter, upToPlace, firstPiece, isSome}
-use Rattle.lines.proofs.Along.{closing, Along, never-at}
-use Rattle.lines.proofs.Cut.{behind-at, behind-none, behind-range}
+use Rattle.lines.proofs.Along.{closing, Along}
+use Rattle.lines.proofs.Cut.{EmptyAt, at-once, behind-line, empty-found, behind-range, behind-at, behind-none}
 
 -- ---- the place behind a piece that begins at a place, as the code looks for it, and whether bytes stand there
 
@@ -50,33 +45,6 @@ pub rest-behind : (k : ℕ) (s : List ℕ) → restAfter k (behind s) ≡ restAf
 unfolding restAfter
 rest-behind zero s = refl
 rest-behind (suc k) s = ap behind (rest-behind k s)
-
--- ---- where the first empty line of the bytes t ends: behind its line feed, which is the first byte or stands behind another
-
-data EmptyAt (start : Bool) (t : List ℕ) (i j : ℕ) : Type 0 where
-  at-once : start ≡ true → byteAt t 0 ≡ 10 → j ≡ i + 1 → EmptyAt start t i j
-  behind-line : (m : ℕ) → byteAt t m ≡ 10 → byteAt t (m + 1) ≡ 10 → j ≡ i + (m + 2) → EmptyAt start t i j
-
-further : (start : Bool) (b : ℕ) (t : List ℕ) (i j : ℕ) → EmptyAt false t (i + 1) j → EmptyAt start (b ∷ t) i j
-further start b t i j (at-once e f h) = absurd (false≢true e)
-further start b t i j (behind-line m f g h) = behind-line (m + 1) (rw (add-one m) f) (rw (add-one (m + 1)) g) (omega arith)
-
-begun : (start : Bool) (b : ℕ) (t : List ℕ) (i j : ℕ) → b ≡ 10 → EmptyAt true t (i + 1) j → EmptyAt start (b ∷ t) i j
-begun start b t i j e (at-once s f h) = behind-line 0 e f (omega arith)
-begun start b t i j e (behind-line m f g h) = further start b t i j (behind-line m f g h)
-
-empty-found : (start : Bool) (t : List ℕ) (i j : ℕ) → emptyIn start t i ≡ At j → EmptyAt start t i j
-unfolding emptyIn
-empty-found start [] i j = λ e. absurd (never-at e)
-empty-found start (b ∷ t) i j =
-    by-test (eqb b 10) (λ x. (if x then (if start then At (i + 1) else emptyIn true t (i + 1)) else emptyIn false t (i + 1)) ≡ At j → EmptyAt start (b ∷ t) i j)
-    (λ h. feed start (eqb-true b 10 h) (empty-found true t (i + 1) j))
-    (λ h e. further start b t i j (empty-found false t (i + 1) j e))
-  where
-    feed : (x : Bool) → b ≡ 10 → (emptyIn true t (i + 1) ≡ At j → EmptyAt true t (i + 1) j)
-        → (if x then At (i + 1) else emptyIn true t (i + 1)) ≡ At j → EmptyAt x (b ∷ t) i j
-    feed true h f e = at-once refl h (cc)
-    feed false h f e = begun false b t i j h (f e)
 
 -- ---- a text and its first piece are the same, begin with an empty line both, or are the same up to a line's end and the empty line behind it
 

@@ -11,7 +11,7 @@ use lib.Dec.{eqb}
 use lib.IntN.{ℤ, pos}
 use lib.ListN.{length, getD}
 use Rattle.text.specs.Number.{digitOf, digitAt}
-use Rattle.keys.specs.Keys.{keys, keyOf}
+use Rattle.keys.specs.Keys.{KEYS, keys, keyOf}
 use Rattle.lines.specs.Line.{fieldAt, afterFields, valueIn, lineAt}
 use Rattle.lines.specs.Print.{fields, line}
 use Rattle.text.specs.declared.Number.the-variants.{Got}
@@ -29,24 +29,21 @@ unfolding digitAt
 lead-digit [] x s at e o = absurd (false≢true e)
 lead-digit (b ∷ key) x s at e o = ap digitOf (o .0) ∙ eqb-true (digitOf b) 10 e
 
-pub key-digit : (k : ℕ) (x s : List ℕ) (at : ℕ) → k < 58 → Holds s at (keyOf k ++ x) → digitAt s at ≡ 10
+pub key-digit : (k : ℕ) (x s : List ℕ) (at : ℕ) → k < KEYS → Holds s at (keyOf k ++ x) → digitAt s at ≡ 10
 key-digit k x s at h o = lead-digit (keyOf k) x s at (table-at leads keys k h refl) o
 
 -- ---- texts that say numbers, from key k on
-abbrev pub AllSay : ℕ → List (List ℕ) → List ℤ → Type 0
-AllSay k [] [] = Unit {0}
-AllSay k [] (z ∷ zs) = ⊥
-AllSay k (x ∷ xs) [] = ⊥
-AllSay k (x ∷ xs) (z ∷ zs) = Says k x z × AllSay (k + 1) xs zs
+infixr 2 _and_
+pub data AllSay : ℕ → List (List ℕ) → List ℤ → Type 0 where
+  nothing : {k : ℕ} → AllSay k [] []
+  _and_ : {k : ℕ} {x : List ℕ} {z : ℤ} {xs : List (List ℕ)} {zs : List ℤ} → Says k x z → AllSay (k + 1) xs zs → AllSay k (x ∷ xs) (z ∷ zs)
 
 pub say-at : (k : ℕ) (xs : List (List ℕ)) (zs : List ℤ) → AllSay k xs zs → (j : ℕ) → j < length zs → Says (k + j) (getD xs j []) (getD zs j (pos 0))
-say-at k [] [] o j h = absurd (not-suc-le-zero h)
-say-at k [] (z ∷ zs) o j h = absurd o
-say-at k (x ∷ xs) [] o j h = absurd o
-say-at k (x ∷ xs) (z ∷ zs) o zero h = rw add-zero (o .0)
-say-at k (x ∷ xs) (z ∷ zs) o (suc j) h =
+say-at k [] [] nothing j h = absurd (not-suc-le-zero h)
+say-at k (x ∷ xs) (z ∷ zs) (o and os) zero h = rw add-zero o
+say-at k (x ∷ xs) (z ∷ zs) (o and os) (suc j) h =
     let e : k + 1 + j ≡ k + suc j = omega arith in
-    rw e at (say-at (k + 1) xs zs (o .1) j (le-of-suc-le-suc h))
+    rw e at (say-at (k + 1) xs zs os j (le-of-suc-le-suc h))
 
 -- ---- fields and lines
 pub field-said : (k : ℕ) (x : List ℕ) (z : ℤ) (s : List ℕ) (at : ℕ) → Says k x z → Holds s at (keyOf k ++ x) → digitAt s (at + length (keyOf k ++ x)) ≡ 10
@@ -72,7 +69,7 @@ module _ (first : ℕ) (texts : List (List ℕ)) (v : ℕ → ℤ) (s : List ℕ
       each j l (yes p) = o .values j p
       each j l (no p) = let same : j ≡ n = omega arith in rw (same, o .place, e)
 
-  pub fields-said : (n : ℕ) → ((j : ℕ) → j < n → Says (first + j) (getD texts j []) (v j)) → first + n ≤ 58 → Holds s at (fields first n texts)
+  pub fields-said : (n : ℕ) → ((j : ℕ) → j < n → Says (first + j) (getD texts j []) (v j)) → first + n ≤ KEYS → Holds s at (fields first n texts)
       → digitAt s (at + length (fields first n texts)) ≡ 10 → FieldsSaid n
   unfolding fields afterFields
   fields-said zero say h o e = record { place = rw add-zero; values = λ j l. absurd (not-suc-le-zero l) }
@@ -89,7 +86,7 @@ module _ (first : ℕ) (texts : List (List ℕ)) (v : ℕ → ℤ) (s : List ℕ
     pub place : lineAt first n s at ≡ At (at + length (line first n texts))
     pub values : (j : ℕ) → j < n → valueIn first s at j ≡ v j
 
-  pub line-said : (n : ℕ) → ((j : ℕ) → j < n → Says (first + j) (getD texts j []) (v j)) → first + n ≤ 58 → Holds s at (line first n texts) → LineSaid n
+  pub line-said : (n : ℕ) → ((j : ℕ) → j < n → Says (first + j) (getD texts j []) (v j)) → first + n ≤ KEYS → Holds s at (line first n texts) → LineSaid n
   unfolding line lineAt digitAt
   line-said n say h o =
       let x = fields first n texts in

@@ -8,7 +8,7 @@ use lib.ListN.{drop}
 use Rattle.exact.specs.Choice.{if_then_else_}
 use Rattle.text.specs.declared.Next.{Next}
 use Rattle.text.specs.declared.Next.the-variants.{At, Wrong}
-use Rattle.text.specs.Text.{bytes}
+use Rattle.text.specs.Text.{LF, bytes}
 
 -- the place behind the first empty line of the bytes t, which begin at place i of a text; `start` says that a line begins there
 unfoldable pub emptyIn : (start : Bool) → List ℕ → ℕ → Next
@@ -16,7 +16,7 @@ emptyIn start [] i = Wrong
 emptyIn start (b ∷ t) i =
     let begun = emptyIn true t (i + 1) in
     let inside = emptyIn false t (i + 1) in
-    if eqb b 10 then (if start then At (i + 1) else begun) else inside
+    if eqb b LF then (if start then At (i + 1) else begun) else inside
 
 abbrev pub behindPlace : Next → List ℕ → List ℕ
 behindPlace (At i) s = drop i s

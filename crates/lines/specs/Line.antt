@@ -3,7 +3,7 @@ use mathlib.Core.Bool.{Bool, true, false, _&&_, _||_}
 use mathlib.Core.List.{List, [], _∷_, _++_}
 use Prim.Native.Nat.{ℕ, zero, suc, _+_, _-_}
 use lib.Dec.{eqb, leb}
-use lib.ListN.{length, replicate}
+use lib.ListN.{replicate}
 use lib.IntN.{ℤ, pos}
 use Rattle.exact.specs.Choice.{if_then_else_}
 use Rattle.exact.specs.Whole.{upTo}
@@ -12,18 +12,18 @@ use Rattle.text.specs.declared.Number.the-variants.{Got, Bad}
 use Rattle.text.specs.declared.Next.{Next}
 use Rattle.text.specs.declared.Next.the-variants.{At, Wrong}
 use Rattle.lines.specs.declared.Fields.{Fields}
-use Rattle.text.specs.Text.{byteAt, keyAt}
+use Rattle.text.specs.Text.{MINUS, LF, END, byteAt, keyAt}
 use Rattle.text.specs.Number.{missing, numberAt}
-use Rattle.keys.specs.Keys.{keys, keyOf}
+use Rattle.keys.specs.Keys.{KEYS, keyOf, mayMiss}
 
--- only `uol` may be missing, as a minus alone
+-- a number that may be missing, as a minus alone
 abbrev pub orMissing : Number → List ℕ → ℕ → Number
 orMissing (Got v next) s at = Got v next
-orMissing Bad s at = if eqb (byteAt s at) 45 then Got missing (at + 1) else Bad
+orMissing Bad s at = if eqb (byteAt s at) MINUS then Got missing (at + 1) else Bad
 
--- the value behind key k: 23 is `uol`
+-- the value behind key k
 unfoldable pub valueAt : ℕ → List ℕ → ℕ → Number
-valueAt k s at = if eqb k 23 then orMissing (numberAt s at) s at else numberAt s at
+valueAt k s at = if mayMiss k then orMissing (numberAt s at) s at else numberAt s at
 
 abbrev pub valueAfter : ℕ → List ℕ → Next → Number
 valueAfter k s (At next) = valueAt k s next
@@ -33,9 +33,9 @@ valueAfter k s Wrong = Bad
 unfoldable pub fieldAt : ℕ → List ℕ → ℕ → Number
 fieldAt k s at = valueAfter k s (keyAt (keyOf k) s at)
 
-abbrev pub placeOf : Number → Next
-placeOf (Got v next) = At next
-placeOf Bad = Wrong
+abbrev pub nextOf : Number → Next
+nextOf (Got v next) = At next
+nextOf Bad = Wrong
 
 abbrev pub valueOf : Number → ℤ
 valueOf (Got v next) = v
@@ -57,7 +57,7 @@ placeIn Wrong = 0
 -- the place after n fields, from key `first` on
 unfoldable pub afterFields : (first n : ℕ) → List ℕ → ℕ → Next
 afterFields first zero s at = At at
-afterFields first (suc n) s at = andThen (afterFields first n s at) (λ i. placeOf (fieldAt (first + n) s i))
+afterFields first (suc n) s at = andThen (afterFields first n s at) (λ i. nextOf (fieldAt (first + n) s i))
 
 abbrev pub valueFrom : ℕ → List ℕ → Next → ℤ
 valueFrom k s (At i) = valueOf (fieldAt k s i)
@@ -71,24 +71,27 @@ valueIn first s at n = valueFrom (first + n) s (afterFields first n s at)
 abbrev pub filled {ℓ} : {A : Type ℓ} → (count total : ℕ) → (ℕ → A) → A → List A
 filled count total f d = upTo f count ++ replicate (total - count) d
 
--- a line's fields are keys of the table, at most 20 of them: nothing else is a line
+-- a line's fields are keys of the table, at most so many of them: nothing else is a line
+abbrev pub WIDTH : ℕ
+WIDTH = 20
+
 abbrev pub isLine : (first count : ℕ) → Bool
-isLine first count = leb (first + count) (length keys) && leb count 20
+isLine first count = leb (first + count) KEYS && leb count WIDTH
 
 -- what is no line has no fields
 abbrev pub noFields : Fields
-noFields = record { next = Wrong; values = replicate 20 (pos 0) }
+noFields = record { next = Wrong; values = replicate WIDTH (pos 0) }
 
 -- what the one loop over a line's keys reads: the place after its fields, and their values. From the first wrong field on they are 0
 abbrev pub fieldsAt : (first count : ℕ) → List ℕ → ℕ → Fields
 fieldsAt first count s at =
     if isLine first count
-    then record { next = afterFields first count s at; values = filled count 20 (valueIn first s at) (pos 0) }
+    then record { next = afterFields first count s at; values = filled count WIDTH (valueIn first s at) (pos 0) }
     else noFields
 
 -- the end of a line
 abbrev pub lineFeed : List ℕ → ℕ → Next
-lineFeed s at = keyAt (10 ∷ []) s at
+lineFeed s at = keyAt (LF ∷ []) s at
 
 -- a line of n fields
 unfoldable pub lineAt : (first n : ℕ) → List ℕ → ℕ → Next
@@ -96,10 +99,10 @@ lineAt first n s at = andThen (afterFields first n s at) (lineFeed s)
 
 -- a block ends at the end of input or at an empty line
 unfoldable pub closes : List ℕ → ℕ → Bool
-closes s at = eqb (byteAt s at) 256 || eqb (byteAt s at) 10
+closes s at = eqb (byteAt s at) END || eqb (byteAt s at) LF
 
 -- the first n bytes end with an empty line: an LF alone, or behind another
 abbrev pub endsEmpty : List ℕ → ℕ → Bool
 endsEmpty s zero = false
-endsEmpty s (suc zero) = eqb (byteAt s 0) 10
-endsEmpty s (suc (suc n)) = eqb (byteAt s (suc n)) 10 && eqb (byteAt s n) 10
+endsEmpty s (suc zero) = eqb (byteAt s 0) LF
+endsEmpty s (suc (suc n)) = eqb (byteAt s (suc n)) LF && eqb (byteAt s n) LF

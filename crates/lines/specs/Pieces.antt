@@ -31,6 +31,10 @@ firstPiece s = upToPlace (emptyIn true s 0) s
 abbrev pub piece : ℕ → List ℕ → List ℕ
 piece k s = firstPiece (restAfter k s)
 
+-- of a piece so many bytes decide: a header, an hour block and an import's block are judged alike whatever follows them
+abbrev pub PIECE : ℕ
+PIECE = 16384
+
 -- whether any byte stands there
 abbrev pub isSome : List ℕ → Bool
 isSome [] = false

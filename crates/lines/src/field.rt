@@ -1,17 +1,18 @@
 // A field, and the one loop over a line's keys.
 ghost use mathlib.Core.Path.{_≡_};
 ghost use Prim.Native.Nat.{_+_, _≤_};
+ghost use Rattle.keys.specs.Keys.{KEYS};
 ghost use Rattle.lines.specs.Line.{valueAt, valueAfter, fieldAt, fieldsAt, noFields};
 use crate::Fields;
 use text::Next;
 use text::Number;
 
-// The value behind key k. Only `uol`, key 23, may be missing.
+// The value behind key k. Only that of `uol` may be missing.
 pub fn value_at(s: &[u8], at: usize, k: usize) -> Number
     ensures { λ r. ⌜ r ≡ valueAt k (now (s .entry)) at ⌝ }
 {
     let n = text::number_at(s, at);
-    if k != 23 {
+    if k != keys::UOL {
         return n;
     }
     if let Number::Got(_, _) = n {
@@ -43,7 +44,7 @@ pub fn field_at(s: &[u8], at: usize, k: usize) -> Number
 
 // `count` fields from key `first` on: the one loop over a line's keys.
 pub fn each_at(s: &[u8], at: usize, first: usize, count: usize) -> Fields
-    requires { ⌜ (first + count ≤ 58) × (count ≤ 20) ⌝ }
+    requires { ⌜ (first + count ≤ KEYS) × (count ≤ 20) ⌝ }
     ensures { λ r. ⌜ r ≡ fieldsAt first count (now (s .entry)) at ⌝ }
 {
     let mut values = [0i64; 20];

@@ -9,6 +9,9 @@ use text::Next;
 
 mod field;
 
+// Of a piece so many bytes decide, as specs/Pieces.antt has it.
+pub const PIECE: usize = 16384;
+
 // The values of a line's fields, and the place after them.
 pub struct Fields {
     pub next: Next,
@@ -22,7 +25,7 @@ pub fn fields_at(s: &[u8], at: usize, first: usize, count: usize) -> Fields
     if 20 < count {
         return field::no_fields();
     }
-    if 58 - count < first {
+    if keys::KEYS - count < first {
         return field::no_fields();
     }
     field::each_at(s, at, first, count)

@@ -7,6 +7,7 @@ use native.Mathlib.Omega.{arith}
 use borrow.Author.Tests.{lt-ltb, le-ltb, ltb-true}
 use lib.IntN.{ℤ, pos, negsuc, natAbs}
 use lib.Signed.{ltZ}
+use Rattle.exact.proofs.Apart.{impossible}
 use Rattle.io.specs.Digits.{digits, glyph, Fewest}
 use Rattle.text.specs.Decimal.{natural}
 use Rattle.page.specs.Numerals.{count, signed}
@@ -42,7 +43,7 @@ decimal-text (suc left) (suc (suc k)) n h f =
 
 pub plain : (v : ℤ) → ltZ v (pos 0) ≡ false → count (natAbs v) ≡ signed v
 plain (pos n) e = refl
-plain (negsuc n) e = absurd (let z : _≡_ {A = ℕ} 0 1 = cc in omega arith)
+plain (negsuc n) e = impossible cc
 
 pub with-minus : (v : ℤ) → ltZ v (pos 0) ≡ true → 45 ∷ count (natAbs v) ≡ signed v
 with-minus (pos n) e = absurd (let h = ltb-true n 0 e in omega arith)

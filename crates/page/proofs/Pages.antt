@@ -1,4 +1,4 @@
--- Bytes into a lent row: nothing, one byte, text after text, and a row that is full.
+-- Bytes into a lent page: nothing, one byte, text after text, and a page that is full.
 use mathlib.Core.Path.{_≡_, refl, sym, _∙_, ap, subst}
 use mathlib.Core.List.{List, [], _∷_, _++_}
 use Prim.Native.Nat.{ℕ, suc, _+_, _-_, _≤_, _<_}
@@ -21,24 +21,24 @@ stored-append [] ys l i = ap (λ (k : ℕ). sets l k ys) (sym (add-zero i))
 stored-append (x ∷ xs) ys l i =
     stored-append xs ys (set l i x) (suc i) ∙ ap (λ (k : ℕ). sets (sets (set l i x) (suc i) xs) k ys) (omega arith)
 
-pub put-none : (row : List ℕ) (at : ℕ) → Put row at [] row at
-put-none row at = record { bytes = refl; place = omega arith }
+pub put-none : (page : List ℕ) (at : ℕ) → Put page at [] page at
+put-none page at = record { bytes = refl; place = omega arith }
 
--- where the row is full nothing more is written
-pub put-full : (row : List ℕ) (at : ℕ) (text : List ℕ) → length row ≤ at → Put row at text row at
-put-full row at text h = record { bytes = sym (stored-past text row at h); place = omega arith }
+-- where the page is full nothing more is written
+pub put-full : (page : List ℕ) (at : ℕ) (text : List ℕ) → length page ≤ at → Put page at text page at
+put-full page at text h = record { bytes = sym (stored-past text page at h); place = omega arith }
 
-pub put-one : (row : List ℕ) (at b : ℕ) → at < length row → Put row at (b ∷ []) (set row at b) (at + 1)
-put-one row at b h = record { bytes = refl; place = omega arith }
+pub put-one : (page : List ℕ) (at b : ℕ) → at < length page → Put page at (b ∷ []) (set page at b) (at + 1)
+put-one page at b h = record { bytes = refl; place = omega arith }
 
-module _ {row after : List ℕ} {at next : ℕ} {xs : List ℕ} (p : Put row at xs after next) where
-  pub put-length : length after ≡ length row
-  put-length = ap length (p .bytes) ∙ length-sets row at xs
+module _ {page after : List ℕ} {at next : ℕ} {xs : List ℕ} (p : Put page at xs after next) where
+  pub put-length : length after ≡ length page
+  put-length = ap length (p .bytes) ∙ length-sets page at xs
 
-  pub put-then : {last : List ℕ} {end : ℕ} {ys : List ℕ} → Put after next ys last end → Put row at (xs ++ ys) last end
+  pub put-then : {last : List ℕ} {end : ℕ} {ys : List ℕ} → Put after next ys last end → Put page at (xs ++ ys) last end
   put-then {last} {end} {ys} q =
       record {
-        bytes = by-test (leb (at + length xs) (length row)) (λ _. last ≡ sets row at (xs ++ ys)) (λ e. fits (leb-true _ _ e)) (λ e. full (leb-false _ _ e));
+        bytes = by-test (leb (at + length xs) (length page)) (λ _. last ≡ sets page at (xs ++ ys)) (λ e. fits (leb-true _ _ e)) (λ e. full (leb-false _ _ e));
         place =
             let e = p .place in
             let f = q .place in
@@ -47,33 +47,33 @@ module _ {row after : List ℕ} {at next : ℕ} {xs : List ℕ} (p : Put row at 
             omega arith;
       }
     where
-      fits : at + length xs ≤ length row → last ≡ sets row at (xs ++ ys)
+      fits : at + length xs ≤ length page → last ≡ sets page at (xs ++ ys)
       fits h =
           let e : next ≡ at + length xs = let z = p .place in omega arith in
-          q .bytes ∙ ap (λ (r : List ℕ). sets r next ys) (p .bytes) ∙ ap (λ (k : ℕ). sets (sets row at xs) k ys) e ∙ sym (stored-append xs ys row at)
+          q .bytes ∙ ap (λ (r : List ℕ). sets r next ys) (p .bytes) ∙ ap (λ (k : ℕ). sets (sets page at xs) k ys) e ∙ sym (stored-append xs ys page at)
 
-      full : length row < at + length xs → last ≡ sets row at (xs ++ ys)
+      full : length page < at + length xs → last ≡ sets page at (xs ++ ys)
       full h =
           let n = put-length in
-          let m = length-sets row at xs in
+          let m = length-sets page at xs in
           q .bytes
           ∙ stored-past ys after next (let z = p .place in omega arith)
           ∙ p .bytes
-          ∙ sym (stored-append xs ys row at ∙ stored-past ys (sets row at xs) (at + length xs) (omega arith))
+          ∙ sym (stored-append xs ys page at ∙ stored-past ys (sets page at xs) (at + length xs) (omega arith))
 
-pub put-as : {row after : List ℕ} {at next : ℕ} {xs ys : List ℕ} → xs ≡ ys → Put row at xs after next → Put row at ys after next
-put-as {row} {after} {at} {next} e p = subst (λ (t : List ℕ). Put row at t after next) e p
+pub put-as : {page after : List ℕ} {at next : ℕ} {xs ys : List ℕ} → xs ≡ ys → Put page at xs after next → Put page at ys after next
+put-as {page} {after} {at} {next} e p = subst (λ (t : List ℕ). Put page at t after next) e p
 
 -- ---- a text byte by byte
 
-module _ {row after : List ℕ} {at next : ℕ} (text : List ℕ) (i : ℕ) (p : Put row at (take i text) after next) where
-  pub put-byte : i < length text → next < length after → Put row at (take (i + 1) text) (set after next (getD text i 0)) (next + 1)
+module _ {page after : List ℕ} {at next : ℕ} (text : List ℕ) (i : ℕ) (p : Put page at (take i text) after next) where
+  pub put-byte : i < length text → next < length after → Put page at (take (i + 1) text) (set after next (getD text i 0)) (next + 1)
   put-byte h u =
       put-as (sym (ap (λ (k : ℕ). take k text) (add-one i) ∙ take-suc text i 0 h))
       (put-then p (put-one after next (getD text i 0) u))
 
-  pub put-up-to-end : length after ≤ next → Put row at text after next
+  pub put-up-to-end : length after ≤ next → Put page at text after next
   put-up-to-end h = put-as (take-append-drop i text) (put-then p (put-full after next (drop i text) h))
 
-  pub put-whole : length text ≤ i → Put row at text after next
+  pub put-whole : length text ≤ i → Put page at text after next
   put-whole h = put-as (take-all i text h) p

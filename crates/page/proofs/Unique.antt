@@ -1,4 +1,4 @@
--- No two different replies satisfy the contract of a public function, and no two different last states of the lent row, its first
+-- No two different replies satisfy the contract of a public function, and no two different last states of the lent page, its first
 -- parameter.
 use Rattle.exact.proofs.Unique.{one, OneReply, OneState}
 use Rattle.page.proofs.put.Reads as put

@@ -1,3 +1,3 @@
--- Bytes in a lent row, and keys with numbers as they are printed.
+-- Bytes in a lent page, and keys with numbers as they are printed.
 pub mod Page
 pub mod Numerals

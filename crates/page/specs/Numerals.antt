@@ -3,13 +3,14 @@ use mathlib.Core.List.{List, _∷_, _++_}
 use Prim.Native.Nat.{ℕ, suc}
 use lib.IntN.{ℤ, pos, negsuc}
 use Rattle.text.specs.Decimal.{natural}
+use Rattle.text.specs.Text.{MINUS}
 
 abbrev pub count : ℕ → List ℕ
 count n = natural 20 n
 
 abbrev pub signed : ℤ → List ℕ
 signed (pos n) = count n
-signed (negsuc n) = 45 ∷ count (suc n)
+signed (negsuc n) = MINUS ∷ count (suc n)
 
 -- ---- a key and its number
 

@@ -1,4 +1,4 @@
--- Every text that a program prints is shorter than the row that it lends for it, so nothing is ever cut.
+-- Every text that a program prints is shorter than the page that it lends for it, so nothing is ever cut.
 use mathlib.Core.Path.{_≡_, refl}
 use mathlib.Core.Bool.{false}
 use mathlib.Core.List.{List, [], _∷_, _++_}
@@ -14,18 +14,17 @@ use Rattle.tariff.specs.declared.Expected.the-variants.{Any}
 use Rattle.tariff.specs.Reply.{Reply, paid, refused, Verdict, clear, fault}
 use Rattle.tariff.specs.Hour.{contribution, reply}
 use Rattle.tariff.specs.Import as import
-use Rattle.tariff.proofs.Replies.{paid-passes}
+use Rattle.tariff.proofs.Demands.{paid-exactly-when-nothing-refuses}
 use Rattle.text.specs.Text.{bytes}
 use Rattle.text.specs.Decimal.{natural}
 use Rattle.blocks.specs.Block.{Block, broken, read, blockOf}
 use Rattle.sheet.specs.Settle.{replyTo, hourSaid}
-use Rattle.header.specs.Header.{headerFault}
-use Rattle.tariff.specs.Total.{Sum, total, none}
-use Rattle.ledger.specs.Day.{dayReply, dayReplies, dayTotal}
+use Rattle.tariff.specs.Total.{Sum, total, noTotal}
+use Rattle.ledger.specs.Day.{Front, frontOf, dayReply, dayReplies, dayTotal}
 use Rattle.imports.specs.Import.{importReply}
-use Rattle.page.specs.Numerals.{count, signed}
-use Rattle.answers.specs.Answers.{refusedLine, payLine, intervalLine, numbered, answerText, hourLine, totalLine, dayLines, hourOrNone, importLine}
-use Rattle.printed.specs.Printed.{contributionsOf, hourText, dayText, importText}
+use Rattle.page.specs.Numerals.{count, counted, signed}
+use Rattle.answers.specs.Answers.{refusedLine, payLine, intervalLine, numbered, answerText, hourLine, totalLine, dayLines, refusedIn, importLine}
+use Rattle.printed.specs.Printed.{LONGEST, contributionsOf, hourText, dayText, importText}
 
 natural-short : (left n : ℕ) → length (natural left n) ≤ left
 unfolding natural
@@ -74,7 +73,7 @@ hour-short k (refused number place) =
 
 total-short : (sum : Sum) → length (totalLine sum) ≤ 28
 total-short (total cents) = let h = signed-short cents in simp length-append (omega arith)
-total-short none = omega arith
+total-short noTotal = omega arith
 
 module _ {A : Type 0} (line : ℕ → A → List ℕ) (most : ℕ) (short : (k : ℕ) (x : A) → length (line k x) ≤ most) where
   numbered-short : (k : ℕ) (xs : List A) → length (numbered line k xs) ≤ most * length xs
@@ -88,7 +87,7 @@ module _ {A : Type 0} (line : ℕ → A → List ℕ) (most : ℕ) (short : (k :
 
 -- ---- the texts
 
-pub answer-fits : (hour : ℤ) (grains : List ℤ) (r : Reply) → length grains ≤ 30 → length (answerText hour grains r) ≤ 2048
+pub answer-fits : (hour : ℤ) (grains : List ℤ) (r : Reply) → length grains ≤ 30 → length (answerText hour grains r) ≤ LONGEST
 answer-fits hour grains (paid sum cents) h =
     let a = length-append (numbered intervalLine 1 grains) (payLine (bytes "hour=") hour cents) in
     let i = numbered-short intervalLine 52 interval-short 1 grains in
@@ -96,46 +95,45 @@ answer-fits hour grains (paid sum cents) h =
     omega arith
 answer-fits hour grains (refused number place) h = let r = refused-short number place in omega arith
 
-pub hour-fits : (s : List ℕ) → length (hourText s) ≤ 2048
+pub hour-fits : (s : List ℕ) → length (hourText s) ≤ LONGEST
 unfolding hourText
 hour-fits s = go (blockOf s)
   where
-    settled : (h : _) (r : Reply) → reply h false Any 30 ≡ r → length (answerText (h .hour) (contributionsOf (read h)) r) ≤ 2048
+    settled : (h : _) (r : Reply) → reply h false Any 30 ≡ r → length (answerText (h .hour) (contributionsOf (read h)) r) ≤ LONGEST
     settled h (paid sum cents) e =
         answer-fits (h .hour) (contributionsOf (read h)) (paid sum cents)
-        (let n = up-length (contribution h false) (h .n) in let room = paid-passes h false Any 30 sum cents e .fits in omega arith)
+        (let n = up-length (contribution h false) (h .n) in let room = paid-exactly-when-nothing-refuses h false Any 30 sum cents .0 e .0 .fits in omega arith)
     settled h (refused number place) e = let r = refused-short number place in omega arith
 
-    go : (b : Block) → length (answerText (hourSaid b) (contributionsOf b) (replyTo b false Any 30)) ≤ 2048
+    go : (b : Block) → length (answerText (hourSaid b) (contributionsOf b) (replyTo b false Any 30)) ≤ LONGEST
     go (broken line) = let r = refused-short 1 line in omega arith
     go (read h) = settled h (reply h false Any 30) refl
 
 -- a day of up to 25 hours
-pub day-fits : (hours : ℕ) (s : List ℕ) → hours ≤ 25 → length (dayText hours s) ≤ 2048
+pub day-fits : (hours : ℕ) (s : List ℕ) → hours ≤ 25 → length (dayText hours s) ≤ LONGEST
 unfolding dayText
-day-fits hours s h = go (headerFault hours s)
+day-fits hours s h = go (frontOf hours s) (frontOf hours s .fault) h
   where
-    go : (v : Verdict) → length (dayLines v (dayReplies hours s) (dayTotal hours s)) ≤ 2048
-    go clear =
-        let a = length-append (numbered hourLine 0 (dayReplies hours s)) (totalLine (dayTotal hours s)) in
-        let n = up-length (dayReply hours s) hours in
-        let l = numbered-short hourLine 79 hour-short 0 (dayReplies hours s) in
-        let t = total-short (dayTotal hours s) in
+    go : (f : Front) (v : Verdict) → f .hours ≤ 25 → length (dayLines v (dayReplies f) (dayTotal f)) ≤ LONGEST
+    go f clear h =
+        let a = length-append (numbered hourLine 0 (dayReplies f)) (totalLine (dayTotal f)) in
+        let n = up-length (dayReply f) (f .hours) in
+        let l = numbered-short hourLine 79 hour-short 0 (dayReplies f) in
+        let t = total-short (dayTotal f) in
         omega arith
-    go (fault number place) = let r = refused-short number place in omega arith
+    go f (fault number place) h = let r = refused-short number place in omega arith
 
-pub import-fits : (hours : ℕ) (s : List ℕ) → length (importText hours s) ≤ 2048
+pub import-fits : (hours : ℕ) (s : List ℕ) → length (importText hours s) ≤ LONGEST
 unfolding importText
 import-fits hours s = go (importReply hours s)
   where
-    where-short : (w : import.Where) → length (hourOrNone w) ≤ 26
-    where-short import.outside = omega arith
-    where-short (import.inHour k) = let n = count-short k in omega arith
-
-    go : (r : import.ImportReply) → length (importLine r) ≤ 2048
-    go (import.paid name grains cents) = let p = pay-short (bytes "import=") name cents in omega arith
-    go (import.refused number hour place) =
+    refused-in : (hour : List ℕ) (number place : ℕ) → length hour ≤ 26 → length (refusedIn hour number place) ≤ LONGEST
+    refused-in hour number place h =
         let n = count-short number in
-        let w = where-short hour in
         let p = count-short place in
         simp length-append (omega arith)
+
+    go : (r : import.ImportReply) → length (importLine r) ≤ LONGEST
+    go (import.paid name grains cents) = let p = pay-short (bytes "import=") name cents in omega arith
+    go (import.refused number (import.outside place)) = refused-in (bytes " hour=-") number place (omega arith)
+    go (import.refused number (import.inHour hour place)) = refused-in (counted (bytes " hour=") hour) number place (let n = count-short hour in omega arith)

@@ -1,4 +1,4 @@
--- The texts of the programs: what the calls write from the row's beginning on, and what the code's answers make of them.
+-- The texts of the programs: what the calls write from the page's beginning on, and what the code's answers make of them.
 use mathlib.Core.Path.{_≡_, refl, sym, _∙_, ap}
 use mathlib.Core.Bool.{false}
 use mathlib.Core.List.{List, _++_}
@@ -10,24 +10,24 @@ use lib.Seq.{take-append-seam}
 use Rattle.exact.specs.Whole.{upTo}
 use Rattle.exact.proofs.Sums.{up-length}
 use Rattle.io.specs.Counts.{Counts}
-use Rattle.intake.proofs.Row.{counts}
+use Rattle.intake.proofs.Store.{counts}
 use Rattle.tariff.specs.declared.Hour.{Hour}
 use Rattle.tariff.specs.declared.Expected.the-variants.{Any}
 use Rattle.tariff.specs.Reply.{Reply, paid, refused, Verdict}
-use Rattle.tariff.specs.Hour.{contribution, rowFor, rowAfter, reply}
+use Rattle.tariff.specs.Hour.{outcomeAt, contribution, reply}
+use Rattle.tariff.specs.Outcome.{rowFor, rowBy}
 use Rattle.blocks.specs.Block.{Block, broken, read, blockOf}
 use Rattle.sheet.specs.Settle.{replyTo, rowTo, hourSaid, countSaid}
-use Rattle.header.specs.Header.{headerFault}
 use Rattle.tariff.specs.Total.{Sum}
-use Rattle.ledger.specs.Day.{dayReplies, dayTotal}
+use Rattle.ledger.specs.Day.{frontOf, dayReplies, dayTotal}
 use Rattle.page.specs.Page.{written, Put}
 use Rattle.answers.specs.Answers.{answerText, dayLines}
 use Rattle.printed.specs.Printed.{contributionsOf, hourText, dayText}
 use Rattle.page.proofs.Pages.{put-length}
 
-pub put-first : {row after : List ℕ} {next : ℕ} {text : List ℕ} → Put row 0 text after next
-    → (after ≡ written row 0 text) × ((next ≡ min (length text) (length row)) × Counts next after)
-put-first {row} {after} {next} {text} p =
+pub put-first : {page after : List ℕ} {next : ℕ} {text : List ℕ} → Put page 0 text after next
+    → (after ≡ written page 0 text) × ((next ≡ min (length text) (length page)) × Counts next after)
+put-first {page} {after} {next} {text} p =
     let e = p .place in
     let n = put-length p in
     let within : next ≤ length after = omega arith in
@@ -36,7 +36,7 @@ put-first {row} {after} {next} {text} p =
 -- ---- `hour`
 
 front-row : (h : Hour) (hour : ℤ) (row : List ℤ) (r : Reply)
-    → answerText hour (take (h .n) (rowFor r h false row)) r ≡ answerText hour (upTo (contribution h false) (h .n)) r
+    → answerText hour (take (h .n) (rowFor r (outcomeAt h false) (h .n) row)) r ≡ answerText hour (upTo (contribution h false) (h .n)) r
 front-row h hour row (paid sum cents) =
     let all = upTo (contribution h false) (h .n) in
     ap (λ (g : List ℤ). answerText hour g (paid sum cents))
@@ -46,7 +46,7 @@ front-row h hour row (refused number place) = refl
 front : (b : Block) (row : List ℤ)
     → answerText (hourSaid b) (take (countSaid b) (rowTo b false Any row)) (replyTo b false Any (length row))
     ≡ answerText (hourSaid b) (contributionsOf b) (replyTo b false Any (length row))
-unfolding rowAfter
+unfolding rowBy
 front (broken line) row = refl
 front (read h) row = front-row h (h .hour) row (reply h false Any (length row))
 
@@ -60,6 +60,7 @@ hour-text s row long e f g h =
 -- ---- `day`
 
 pub day-text : (hours : ℕ) (s : List ℕ) {v : Verdict} {replies : List Reply} {sum : Sum}
-    → v ≡ headerFault hours s → replies ≡ dayReplies hours s → sum ≡ dayTotal hours s → dayLines v replies sum ≡ dayText hours s
+    → v ≡ frontOf hours s .fault → replies ≡ dayReplies (frontOf hours s) → sum ≡ dayTotal (frontOf hours s)
+    → dayLines v replies sum ≡ dayText hours s
 unfolding dayText
 day-text hours s e f g = rw (e, f, g)

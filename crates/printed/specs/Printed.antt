@@ -8,10 +8,13 @@ use Rattle.tariff.specs.declared.Expected.the-variants.{Any}
 use Rattle.tariff.specs.Hour.{contribution}
 use Rattle.blocks.specs.Block.{Block, broken, read, blockOf}
 use Rattle.sheet.specs.Settle.{replyTo, hourSaid}
-use Rattle.header.specs.Header.{headerFault}
-use Rattle.ledger.specs.Day.{dayReplies, dayTotal}
+use Rattle.ledger.specs.Day.{frontOf, dayReplies, dayTotal}
 use Rattle.imports.specs.Import.{importReply}
 use Rattle.answers.specs.Answers.{answerText, dayLines, importLine}
+
+-- no text is longer, so that a page of this many bytes holds each of them whole
+abbrev pub LONGEST : ℕ
+LONGEST = 2048
 
 abbrev pub contributionsOf : Block → List ℤ
 contributionsOf (broken line) = []
@@ -22,7 +25,7 @@ unfoldable pub hourText : List ℕ → List ℕ
 hourText s = let b = blockOf s in answerText (hourSaid b) (contributionsOf b) (replyTo b false Any 30)
 
 unfoldable pub dayText : (hours : ℕ) → List ℕ → List ℕ
-dayText hours s = dayLines (headerFault hours s) (dayReplies hours s) (dayTotal hours s)
+dayText hours s = let f = frontOf hours s in dayLines (f .fault) (dayReplies f) (dayTotal f)
 
 unfoldable pub importText : (hours : ℕ) → List ℕ → List ℕ
 importText hours s = importLine (importReply hours s)

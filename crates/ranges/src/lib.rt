@@ -1,8 +1,7 @@
 // The range of each number of a record: of an hour's, and of an import's. Any values are judged: nothing is asked of the caller.
 ghost use mathlib.Core.Path.{_≡_};
 ghost use mathlib.Core.Bool.{_&&_};
-ghost use Rattle.tariff.specs.Sheet.{isSeconds, isHour, isPower, isCapacity, isBid, isPrice, curveInRange, uolInRange, aheadInRange, intervalInRange};
-ghost use Rattle.tariff.specs.Import.{isMark};
+ghost use Rattle.tariff.specs.Sheet.{isSeconds, isHour, isPower, isCapacity, isBid, isPrice, curveInRange, uolInRange, aheadInRange, intervalInRange, isMark};
 use tariff::Curve;
 use tariff::DayAhead;
 use tariff::Interval;

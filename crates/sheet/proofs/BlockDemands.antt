@@ -1,5 +1,5 @@
 -- The theorems of the definitions of a block: demand 3 as it speaks of texts, where a block ends, and the text of a record.
-use mathlib.Core.Path.{_≡_}
+use mathlib.Core.Path.{_≡_, refl, sym, _∙_, ap}
 use mathlib.Core.Bool.{Bool}
 use mathlib.Core.List.{List, [], _∷_, _++_}
 use mathlib.Core.Logic.{_↔_}
@@ -10,18 +10,27 @@ use Rattle.tariff.specs.declared.Hour.{Hour}
 use Rattle.tariff.specs.declared.Expected.{Expected}
 use Rattle.tariff.specs.Reply.{clear, paid, refused, FORM, DERATE, REACH}
 use Rattle.tariff.specs.Hour.{form, range}
-use Rattle.tariff.specs.Demand.{MustPrice, priceIn, FirstUnpriced, FirstExceeded, UnpricedBeforeDerate, ExceededBeforeReach, Alike, NoFaultTo4, NoFaultTo5, Extends}
-use Rattle.blocks.specs.Block.{blockOf, broken, read}
+use Rattle.tariff.specs.Demand.{MustPrice, priceIn, FirstUnpriced, FirstExceeded, UnpricedBeforeDerate, ExceededBeforeReach, Alike, Lawful, WholeHour, Extends}
+use Rattle.tariff.proofs.Checks.{never-clear}
+use Rattle.tariff.proofs.Demands.{
+  only-needed-prices-matter,
+  reach-exactly-when-unpriced,
+  derate-exactly-when-exceeded,
+  refused-for-reach-exactly-when-some-kilowatt-is-unpriced,
+  refused-for-derate-exactly-when-some-reduction-exceeds,
+  adding-curve-changes-nothing,
+  form-comes-first,
+}
+use Rattle.blocks.specs.Block.{Block, blockOf, broken, read}
+use Rattle.lines.specs.Pieces.{PIECE}
 use Rattle.sheet.specs.Settle.{replyTo, rowTo}
 use Rattle.sheet.specs.Apart.{CurvesApart}
 use Rattle.sheet.specs.Closed.{Closed}
 use Rattle.sheet.specs.Print.{textOf, Plain}
 use Rattle.sheet.proofs.Apart.{apart-alike, apart-broken}
-use Rattle.sheet.proofs.BlockReplies.{blocks-needed, block-reach, block-derate, block-reach-some, block-derate-some, blocks-extended}
-use Rattle.sheet.proofs.Local.{decided}
-use Rattle.sheet.proofs.Closing.{closed-or-ended, not-read}
+use Rattle.sheet.proofs.ReadHours.{Sound, read-sound}
+use Rattle.sheet.proofs.Closing.{decided, closed-or-ended, not-read}
 use Rattle.sheet.proofs.ReadsBack.{text-read, read-again}
-use Rattle.sheet.proofs.Forms.{form-exactly}
 
 -- ---- texts whose first three lines are as printed, and that differ in lines 2 and 3 only
 
@@ -42,43 +51,46 @@ pub only-needed-prices-of-blocks-matter :
     → CurvesApart s t
     → blockOf s ≡ read h
     → blockOf t ≡ read g
-    → NoFaultTo4 h expected
-    → NoFaultTo4 g expected
+    → Lawful h expected
+    → Lawful g expected
     → ((i : ℕ) (k : ℤ) → MustPrice h isExcluded i k → priceIn h i k ≡ priceIn g i k)
     → (replyTo (blockOf s) isExcluded expected (length row) ≡ replyTo (blockOf t) isExcluded expected (length row)) × (rowTo (blockOf s) isExcluded expected row ≡ rowTo (blockOf t) isExcluded expected row)
-only-needed-prices-of-blocks-matter = blocks-needed
+only-needed-prices-of-blocks-matter s t h g isExcluded expected row o x y f f′ prices =
+    rw (x, y) (only-needed-prices-matter h g isExcluded expected row (curves-apart-are-alike s t o h g x y) f f′ prices)
 
 -- REACH is given exactly when no check from 1 to 5 refuses and a kilowatt that must be priced has no price: at the first interval that
 -- has one, and where no DERATE stands at or before it.
 pub block-reach-exactly-when-unpriced :
     (s : List ℕ) (h : Hour) (isExcluded : Bool) (expected : Expected) (room i : ℕ)
     → blockOf s ≡ read h
-    → (replyTo (blockOf s) isExcluded expected room ≡ refused REACH (i + 1)) ↔ (NoFaultTo5 h expected × FirstUnpriced h isExcluded i)
-block-reach-exactly-when-unpriced = block-reach
+    → (replyTo (blockOf s) isExcluded expected room ≡ refused REACH (i + 1)) ↔ (WholeHour h expected × FirstUnpriced h isExcluded i)
+block-reach-exactly-when-unpriced s h isExcluded expected room i x = rw x (reach-exactly-when-unpriced h isExcluded expected room i)
 
 -- DERATE is given exactly when no check from 1 to 5 refuses and the reduction of an eligible interval exceeds the room for it: at the
 -- first such interval, and where no REACH stands before it.
 pub block-derate-exactly-when-exceeded :
     (s : List ℕ) (h : Hour) (isExcluded : Bool) (expected : Expected) (room i : ℕ)
     → blockOf s ≡ read h
-    → (replyTo (blockOf s) isExcluded expected room ≡ refused DERATE (i + 1)) ↔ (NoFaultTo5 h expected × FirstExceeded h isExcluded i)
-block-derate-exactly-when-exceeded = block-derate
+    → (replyTo (blockOf s) isExcluded expected room ≡ refused DERATE (i + 1)) ↔ (WholeHour h expected × FirstExceeded h isExcluded i)
+block-derate-exactly-when-exceeded s h isExcluded expected room i x = rw x (derate-exactly-when-exceeded h isExcluded expected room i)
 
 -- So a block is refused for reach exactly when no check from 1 to 5 refuses it, a kilowatt that some interval must price has no price, and
 -- no derate refusal falls in that interval or before it.
 pub block-refused-for-reach-exactly-when-some-kilowatt-is-unpriced :
     (s : List ℕ) (h : Hour) (isExcluded : Bool) (expected : Expected) (room : ℕ)
     → blockOf s ≡ read h
-    → ((place : ℕ) × (replyTo (blockOf s) isExcluded expected room ≡ refused REACH place)) ↔ (NoFaultTo5 h expected × UnpricedBeforeDerate h isExcluded)
-block-refused-for-reach-exactly-when-some-kilowatt-is-unpriced = block-reach-some
+    → ((place : ℕ) × (replyTo (blockOf s) isExcluded expected room ≡ refused REACH place)) ↔ (WholeHour h expected × UnpricedBeforeDerate h isExcluded)
+block-refused-for-reach-exactly-when-some-kilowatt-is-unpriced s h isExcluded expected room x =
+    rw x (refused-for-reach-exactly-when-some-kilowatt-is-unpriced h isExcluded expected room)
 
 -- And for derate exactly when no check from 1 to 5 refuses it, the reduction of some eligible interval exceeds the room for it, and no
 -- reach refusal falls before that interval.
 pub block-refused-for-derate-exactly-when-some-reduction-exceeds :
     (s : List ℕ) (h : Hour) (isExcluded : Bool) (expected : Expected) (room : ℕ)
     → blockOf s ≡ read h
-    → ((place : ℕ) × (replyTo (blockOf s) isExcluded expected room ≡ refused DERATE place)) ↔ (NoFaultTo5 h expected × ExceededBeforeReach h isExcluded)
-block-refused-for-derate-exactly-when-some-reduction-exceeds = block-derate-some
+    → ((place : ℕ) × (replyTo (blockOf s) isExcluded expected room ≡ refused DERATE place)) ↔ (WholeHour h expected × ExceededBeforeReach h isExcluded)
+block-refused-for-derate-exactly-when-some-reduction-exceeds s h isExcluded expected room x =
+    rw x (refused-for-derate-exactly-when-some-reduction-exceeds h isExcluded expected room)
 
 -- Adding curve to a paid block never moves a cent, where the longer curves break no rule of checks 1 to 4: with every price that its
 -- curves had, and perhaps more, it pays the same and leaves the same row.
@@ -88,12 +100,13 @@ pub adding-curve-to-a-block-changes-nothing :
     → blockOf s ≡ read h
     → blockOf t ≡ read g
     → (sum cents : ℤ)
-    → NoFaultTo4 g expected
+    → Lawful g expected
     → Extends (h .da) (g .da)
     → Extends (h .rt) (g .rt)
     → replyTo (blockOf s) isExcluded expected (length row) ≡ paid sum cents
     → (replyTo (blockOf t) isExcluded expected (length row) ≡ paid sum cents) × (rowTo (blockOf t) isExcluded expected row ≡ rowTo (blockOf s) isExcluded expected row)
-adding-curve-to-a-block-changes-nothing = blocks-extended
+adding-curve-to-a-block-changes-nothing s t h g isExcluded expected row o x y sum cents f da rt e =
+    rw (x, y) (adding-curve-changes-nothing h g isExcluded expected row sum cents (curves-apart-are-alike s t o h g x y) f da rt (rw x at e))
 
 -- ---- the end of a block, and its lines
 
@@ -109,7 +122,11 @@ the-end-closes = closed-or-ended
 pub form-exactly-when-broken :
     (s : List ℕ) (isExcluded : Bool) (expected : Expected) (room line : ℕ)
     → (replyTo (blockOf s) isExcluded expected room ≡ refused FORM line) ↔ (blockOf s ≡ broken line)
-form-exactly-when-broken = form-exactly
+form-exactly-when-broken s isExcluded expected room line = (go (blockOf s) (read-sound s), λ e. ap (λ (b : Block). replyTo b isExcluded expected room) e)
+  where
+    go : (b : Block) → ((h : Hour) → b ≡ read h → Sound h) → replyTo b isExcluded expected room ≡ refused FORM line → b ≡ broken line
+    go (broken l) sound e = cc
+    go (read h) sound e = absurd (never-clear (sym (form-comes-first h isExcluded expected room line .0 e) ∙ sound h refl .form))
 
 -- ---- the text of a record
 
@@ -122,5 +139,5 @@ pub reads-again : (s : List ℕ) (h : Hour) → blockOf s ≡ read h → range h
 reads-again = read-again
 
 -- A block is decided by its first 16,384 bytes: a program that reads no more of a block of any length has its exact answer.
-pub first-bytes-decide : (s : List ℕ) → blockOf (take 16384 s) ≡ blockOf s
+pub first-bytes-decide : (s : List ℕ) → blockOf (take PIECE s) ≡ blockOf s
 first-bytes-decide = decided

@@ -1,13 +1,10 @@
 -- What is proved of the sheet's definitions: `BlockDemands` states it. The others hold the laws that it and the functions' proofs cite.
-pub mod AlongBlock
+pub mod BlockShared
 pub mod Closing
 pub mod Apart
 pub mod PrintsCurve
 pub mod PrintsHour
 pub mod ReadHours
 pub mod ReadsBack
-pub mod Forms
-pub mod BlockReplies
-pub mod Local
 pub mod BlockDemands
 pub mod Unique

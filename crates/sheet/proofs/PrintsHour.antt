@@ -22,25 +22,26 @@ use Rattle.tariff.specs.Sheet.{uolInRange, intervalInRange}
 use Rattle.tariff.specs.Hour.{interval}
 use Rattle.tariff.proofs.Ranges.{AheadFits, IntervalFits, interval-fits, uol-fits, capacity-within}
 use Rattle.text.specs.Number.{missing}
-use Rattle.lines.specs.Line.{valueIn, lineAt, closes}
-use Rattle.lines.specs.Rows.{rowPlace, rowIn, counted, rowsAt}
+use Rattle.keys.specs.Keys.{AHEAD, INTERVAL, UOL}
+use Rattle.lines.specs.Line.{valueIn, closes}
+use Rattle.lines.specs.Series.{seriesPlace, seriesIn, lineCount, seriesAt}
 use Rattle.records.specs.Records.{aheadOf, uolOf, intervalOf}
-use Rattle.blocks.specs.Block.{intervalAt}
+use Rattle.blocks.specs.Block.{intervalLine, intervalSaid, intervalAt}
 use Rattle.text.specs.Decimal.{number}
 use Rattle.lines.specs.Print.{fields, line}
-use Rattle.sheet.specs.Print.{limit, ahead, amounts, intervals}
+use Rattle.sheet.specs.Print.{uolText, aheadTexts, amountTexts, intervalsText}
 use Rattle.text.specs.declared.Next.the-variants.{At}
 use Rattle.lines.proofs.Holds.{Holds, holds-split, after-both, Says, number-said, missing-said}
-use Rattle.lines.proofs.Prints.{AllSay, say-at, line-said}
+use Rattle.lines.proofs.Prints.{AllSay, nothing, _and_, say-at, line-said}
 
 -- ---- the numbers of a line, and the record that they make
 abbrev limitValue : Uol → ℤ
 limitValue uol.Missing = missing
 limitValue (uol.At k) = k .0
 
-limit-said : (u : Uol) → uolInRange u ≡ true → Says 23 (limit u) (limitValue u)
+limit-said : (u : Uol) → uolInRange u ≡ true → Says UOL (uolText u) (limitValue u)
 limit-said uol.Missing e = missing-said
-limit-said (uol.At k) e = number-said 23 (k .0) (within-lit tt (capacity-within e))
+limit-said (uol.At k) e = number-said UOL (k .0) (within-lit tt (capacity-within e))
 
 limit-back : (u : Uol) → uolInRange u ≡ true → uolOf (limitValue u) ≡ u
 limit-back uol.Missing e = refl
@@ -59,80 +60,17 @@ values v =
 says : {N : ℕ} (k : ℕ) (z : ℤ) → T (leb N 9999999) → Within N z → Says k (number z) z
 says k z t w = number-said k z (within-lit t w)
 
-pub ahead-say : (h : Hour) → Within 23 (h .hour) → AheadFits (h .ahead) → AllSay 0 (ahead h) (aheadValues h)
-ahead-say h w f = (
-  says 0 _ tt w,
-  (
-    says 1 _ tt (f .en),
-    (
-      says 2 _ tt (f .reg),
-      (
-        says 3 _ tt (f .r1),
-        (
-          says 4 _ tt (f .r2),
-          (
-            says 5 _ tt (f .r3),
-            (says 6 _ tt (f .breg), (says 7 _ tt (f .b1), (says 8 _ tt (f .b2), (says 9 _ tt (f .b3), tt)))),
-          ),
-        ),
-      ),
-    ),
-  ),
-)
+pub ahead-say : (h : Hour) → Within 23 (h .hour) → AheadFits (h .ahead) → AllSay AHEAD (aheadTexts h) (aheadValues h)
+ahead-say h w f =
+    says _ _ tt w and says _ _ tt (f .en) and says _ _ tt (f .reg) and says _ _ tt (f .r1) and says _ _ tt (f .r2) and says _ _ tt (f .r3)
+    and says _ _ tt (f .breg) and says _ _ tt (f .b1) and says _ _ tt (f .b2) and says _ _ tt (f .b3) and nothing
 
-interval-say : (v : Interval) → IntervalFits v → uolInRange (v .uol) ≡ true → AllSay 16 (amounts v) (values v)
-interval-say v f e = (
-  says 16 _ tt (f .s),
-  (
-    says 17 _ tt (f .en),
-    (
-      says 18 _ tt (f .ae),
-      (
-        says 19 _ tt (f .co),
-        (
-          says 20 _ tt (f .eop),
-          (
-            says 21 _ tt (f .pen),
-            (
-              says 22 _ tt (f .lim),
-              (
-                limit-said (v .uol) e,
-                (
-                  says 24 _ tt (f .r1),
-                  (
-                    says 25 _ tt (f .r2),
-                    (
-                      says 26 _ tt (f .r3),
-                      (
-                        says 27 _ tt (f .p1),
-                        (
-                          says 28 _ tt (f .p2),
-                          (
-                            says 29 _ tt (f .p3),
-                            (
-                              says 30 _ tt (f .reg),
-                              (
-                                says 31 _ tt (f .preg),
-                                (
-                                  says 32 _ tt (f .breg),
-                                  (says 33 _ tt (f .mv), (says 34 _ tt (f .pmv), (says 35 _ tt (f .bmv), tt))),
-                                ),
-                              ),
-                            ),
-                          ),
-                        ),
-                      ),
-                    ),
-                  ),
-                ),
-              ),
-            ),
-          ),
-        ),
-      ),
-    ),
-  ),
-)
+interval-say : (v : Interval) → IntervalFits v → uolInRange (v .uol) ≡ true → AllSay INTERVAL (amountTexts v) (values v)
+interval-say v f e =
+    says _ _ tt (f .s) and says _ _ tt (f .en) and says _ _ tt (f .ae) and says _ _ tt (f .co) and says _ _ tt (f .eop) and says _ _ tt (f .pen)
+    and says _ _ tt (f .lim) and limit-said (v .uol) e and says _ _ tt (f .r1) and says _ _ tt (f .r2) and says _ _ tt (f .r3)
+    and says _ _ tt (f .p1) and says _ _ tt (f .p2) and says _ _ tt (f .p3) and says _ _ tt (f .reg) and says _ _ tt (f .preg)
+    and says _ _ tt (f .breg) and says _ _ tt (f .mv) and says _ _ tt (f .pmv) and says _ _ tt (f .bmv) and nothing
 
 -- a record sees the first numbers only
 pub ahead-back : (h : Hour) (f : ℕ → ℤ) → ((j : ℕ) → j < 10 → f j ≡ getD (aheadValues h) j (pos 0)) → aheadOf f ≡ h .ahead
@@ -146,56 +84,58 @@ interval-back v f u e = ap (λ (l : List ℤ). intervalOf (λ n. getD l n (pos 0
 -- ---- interval lines
 module _ (h : Hour) (fits : (i : ℕ) → i < h .n → intervalInRange (interval h i) ≡ true) (s : List ℕ) (at : ℕ) where
   abbrev place : ℕ → ℕ
-  place n = at + length (intervals n h)
+  place n = at + length (intervalsText n h)
 
   pub record Row (i : ℕ) : Type 0 where
     pub begun : closes s (place i) ≡ false
-    pub next : lineAt 16 20 s (place i) ≡ At (place (suc i))
-    pub same : intervalOf (valueIn 16 s (place i)) ≡ interval h i
+    pub next : intervalLine s (place i) ≡ At (place (suc i))
+    pub same : intervalSaid s (place i) ≡ interval h i
 
-  row-begun : (v : Interval) (i : ℕ) → Holds s i (line 16 20 (amounts v)) → closes s i ≡ false
+  row-begun : (v : Interval) (i : ℕ) → Holds s i (line INTERVAL 20 (amountTexts v)) → closes s i ≡ false
   unfolding closes line fields
   row-begun v i o = rw (o .0)
 
-  row-said : (n : ℕ) → n < h .n → Holds s (place n) (line 16 20 (amounts (interval h n))) → Row n
-  unfolding intervals
+  row-said : (n : ℕ) → n < h .n → Holds s (place n) (line INTERVAL 20 (amountTexts (interval h n))) → Row n
+  unfolding intervalsText
   row-said n l o =
       let v = interval h n in
       let u = uol-fits v (fits n l) in
-      let r = line-said 16 (amounts v) (λ j. getD (values v) j (pos 0)) s (place n) 20 (say-at 16 (amounts v) (values v) (interval-say v (interval-fits v (fits n l)) u)) (omega arith) o in
+      let say = say-at INTERVAL (amountTexts v) (values v) (interval-say v (interval-fits v (fits n l)) u) in
+      let r = line-said INTERVAL (amountTexts v) (λ j. getD (values v) j (pos 0)) s (place n) 20 say (omega arith) o in
       record {
         begun = row-begun v (place n) o;
-        next = r .place ∙ ap At (after-both at (intervals n h) (line 16 20 (amounts v)));
-        same = interval-back v (valueIn 16 s (place n)) u (r .values);
+        next = r .place ∙ ap At (after-both at (intervalsText n h) (line INTERVAL 20 (amountTexts v)));
+        same = interval-back v (valueIn INTERVAL s (place n)) u (r .values);
       }
 
-  pub rows-said : (n : ℕ) → n ≤ h .n → Holds s at (intervals n h) → (i : ℕ) → i < n → Row i
-  unfolding intervals
-  rows-said zero l o i u = absurd (not-suc-le-zero u)
-  rows-said (suc n) l o i u = go (rows-said n (omega arith) (r .0) i) (decLt i n)
+  pub series-said : (n : ℕ) → n ≤ h .n → Holds s at (intervalsText n h) → (i : ℕ) → i < n → Row i
+  unfolding intervalsText
+  series-said zero l o i u = absurd (not-suc-le-zero u)
+  series-said (suc n) l o i u = go (series-said n (omega arith) (r .0) i) (decLt i n)
     where
-      r : Holds s at (intervals n h) × Holds s (place n) (line 16 20 (amounts (interval h n)))
-      r = holds-split s at (intervals n h) _ o
+      r : Holds s at (intervalsText n h) × Holds s (place n) (line INTERVAL 20 (amountTexts (interval h n)))
+      r = holds-split s at (intervalsText n h) _ o
 
       go : (i < n → Row i) → Dec (i < n) → Row i
       go before (yes p) = before p
       go before (no p) = let e : i ≡ n = omega arith in rw e (row-said n l (r .1))
 
   module _ (row : (i : ℕ) → i < h .n → Row i) where
-    place-said : (n : ℕ) → n ≤ h .n → rowPlace 16 20 s at n ≡ At (place n)
-    unfolding rowPlace intervals
+    place-said : (n : ℕ) → n ≤ h .n → seriesPlace intervalLine s at n ≡ At (place n)
+    unfolding seriesPlace intervalsText
     place-said zero l = rw add-zero
     place-said (suc n) l = rw (place-said n (omega arith)) (row n l .next)
 
     pub each-said : (i : ℕ) → i < h .n → intervalAt s at i ≡ interval h i
-    unfolding rowIn
+    unfolding seriesIn
     each-said i l = rw (place-said i (omega arith)) (row i l .same)
 
-    pub rows-counted : (d left i : ℕ) → i + d ≡ h .n → d ≤ left → closes s (place (h .n)) ≡ true → rowsAt 16 20 4 left s (place i) i ≡ counted (h .n)
-    unfolding rowsAt
-    rows-counted zero zero i e l c = let q : i ≡ h .n = omega arith in rw (q, c)
-    rows-counted zero (suc left) i e l c = let q : i ≡ h .n = omega arith in rw (q, c)
-    rows-counted (suc d) zero i e l c = absurd (not-suc-le-zero l)
-    rows-counted (suc d) (suc left) i e l c =
+    pub series-counted : (d left i : ℕ) → i + d ≡ h .n → d ≤ left → closes s (place (h .n)) ≡ true
+        → seriesAt intervalLine 4 left s (place i) i ≡ lineCount (h .n)
+    unfolding seriesAt
+    series-counted zero zero i e l c = let q : i ≡ h .n = omega arith in rw (q, c)
+    series-counted zero (suc left) i e l c = let q : i ≡ h .n = omega arith in rw (q, c)
+    series-counted (suc d) zero i e l c = absurd (not-suc-le-zero l)
+    series-counted (suc d) (suc left) i e l c =
         let r = row i (omega arith) in
-        rw (r .begun, r .next, add-one i) (rows-counted d left (suc i) (omega arith) (omega arith) c)
+        rw (r .begun, r .next, add-one i) (series-counted d left (suc i) (omega arith) (omega arith) c)

@@ -15,16 +15,16 @@ use Rattle.tariff.specs.Sheet.{liesIn}
 use Rattle.tariff.specs.Reply.{clear}
 use Rattle.tariff.specs.Hour.{blank, form}
 use Rattle.tariff.proofs.Tests.{and-right}
-use Rattle.lines.specs.Line.{andThen, afterFields, valueIn, lineFeed, lineAt, filled}
-use Rattle.lines.specs.Rows.{Rows, counted, brokenRow, rowsAt}
-use Rattle.records.specs.Records.{aheadOf}
-use Rattle.blocks.specs.CurveLine.{afterPairs, pairsAt, curveLine, curveFrom, curveOf}
-use Rattle.blocks.specs.Block.{intervalAt, read, withRows, afterLine1, afterLine2, afterLine3, blockAt, blockOf}
+use Rattle.keys.specs.Keys.{AHEAD, DA, RT}
+use Rattle.lines.specs.Line.{andThen, afterFields, valueIn, lineFeed, filled}
+use Rattle.lines.specs.Series.{Series, lineCount, brokenLine}
+use Rattle.blocks.specs.CurveLine.{afterPairs, pairsAt, curveLine, curveFrom, curveSaid}
+use Rattle.blocks.specs.Block.{aheadLine, intervalLine, intervalAt, intervalLines, hourWith, read, withSeries, afterLine1, afterLine2, afterLine3, blockAt, blockOf}
 use Rattle.sheet.specs.Print.{CurvePlain, Plain}
 use Rattle.text.specs.declared.Next.{Next}
 use Rattle.text.specs.declared.Next.the-variants.{At, Wrong}
 use Rattle.lines.proofs.Along.{never-at}
-use Rattle.lines.proofs.Rows.{rows-few}
+use Rattle.lines.proofs.Series.{series-few}
 use Rattle.sheet.proofs.Apart.{never-read}
 use Rattle.lines.proofs.Fill.{filled-same, filled-at}
 
@@ -33,16 +33,16 @@ filled-plain : {A : Type 0} (f : ℕ → A) (d : A) (n total : ℕ) → filled n
 filled-plain f d n total = filled-same f _ d n total (filled-at f d n total)
 
 -- ---- a curve line
-curve-plain : (first : ℕ) (s : List ℕ) (at : ℕ) → CurvePlain (curveOf first s at)
-unfolding curveOf
+curve-plain : (first : ℕ) (s : List ℕ) (at : ℕ) → CurvePlain (curveSaid first s at)
+unfolding curveSaid
 curve-plain first s at = go (valueIn first s at 0) (valueIn first s at 1) (afterFields first 2 s at)
   where
     go : (start n : ℤ) (a : Next) → CurvePlain (curveFrom start n s a)
     go start n (At i) = record { ends = filled-plain _ (kw (pos 0)) (over n) 12; prices = filled-plain _ (price (pos 0)) (over n) 12 }
     go start n Wrong = record { ends = filled-plain _ (kw (pos 0)) 0 12; prices = filled-plain _ (price (pos 0)) 0 12 }
 
-curve-few : (first : ℕ) (s : List ℕ) (at i : ℕ) → curveLine first s at ≡ At i → curveOf first s at .n ≤ 12
-unfolding curveLine curveOf
+curve-few : (first : ℕ) (s : List ℕ) (at i : ℕ) → curveLine first s at ≡ At i → curveSaid first s at .n ≤ 12
+unfolding curveLine curveSaid
 curve-few first s at i = go (valueIn first s at 0) (valueIn first s at 1) (afterFields first 2 s at)
   where
     go : (start n : ℤ) (a : Next) → andThen a (pairsAt n s) ≡ At i → curveFrom start n s a .n ≤ 12
@@ -58,30 +58,32 @@ pub record Sound (h : Hour) : Type 0 where
 
 module _ (s : List ℕ) (h : Hour) where
   module _ (v : ℕ → ℤ) (a b : ℕ) where
-    hour-sound : (n k : ℕ) → curveOf 10 s a .n ≤ 12 → curveOf 12 s b .n ≤ 12 → n ≤ 30
-        → Sound (record { hour = v 0; ahead = aheadOf v; da = curveOf 10 s a; rt = curveOf 12 s b; n = n; iv = filled n 30 (intervalAt s k) blank })
+    hour-sound : (n k : ℕ) → curveSaid DA s a .n ≤ 12 → curveSaid RT s b .n ≤ 12 → n ≤ 30
+        → Sound (hourWith v (curveSaid DA s a) (curveSaid RT s b) s k n)
     unfolding form
     hour-sound n k d r l = record {
       form = rw (le-leb _ 12 d, le-leb _ 12 r, le-leb n 30 l);
-      plain = record { da = curve-plain 10 s a; rt = curve-plain 12 s b; iv = filled-plain (intervalAt s k) blank n 30 };
+      plain = record { da = curve-plain DA s a; rt = curve-plain RT s b; iv = filled-plain (intervalAt s k) blank n 30 };
     }
 
-    rows-sound : (k : ℕ) → curveOf 10 s a .n ≤ 12 → curveOf 12 s b .n ≤ 12 → (r : Rows) → rowsAt 16 20 4 30 s k 0 ≡ r → withRows v (curveOf 10 s a) (curveOf 12 s b) s k r ≡ read h → Sound h
-    rows-sound k d r (brokenRow line) e q = absurd (never-read q)
-    rows-sound k d r (counted n) e q = subst Sound (cc) (hour-sound n k d r (rows-few 16 20 4 30 s k 0 n e))
+    series-sound : (k : ℕ) → curveSaid DA s a .n ≤ 12 → curveSaid RT s b .n ≤ 12 → (r : Series) → intervalLines s k ≡ r
+        → withSeries v (curveSaid DA s a) (curveSaid RT s b) s k r ≡ read h → Sound h
+    series-sound k d r (brokenLine line) e q = absurd (never-read q)
+    series-sound k d r (lineCount n) e q = subst Sound (cc) (hour-sound n k d r (series-few intervalLine 4 30 s k n e))
 
-    line3-sound : (x : Next) → curveLine 12 s b ≡ x → curveOf 10 s a .n ≤ 12 → afterLine3 x v (curveOf 10 s a) (curveOf 12 s b) s ≡ read h → Sound h
-    line3-sound (At k) e d q = rows-sound k d (curve-few 12 s b k e) (rowsAt 16 20 4 30 s k 0) refl q
+    line3-sound : (x : Next) → curveLine RT s b ≡ x → curveSaid DA s a .n ≤ 12 → afterLine3 x v (curveSaid DA s a) (curveSaid RT s b) s ≡ read h
+        → Sound h
+    line3-sound (At k) e d q = series-sound k d (curve-few RT s b k e) (intervalLines s k) refl q
     line3-sound Wrong e d q = absurd (never-read q)
 
-  line2-sound : (v : ℕ → ℤ) (a : ℕ) (x : Next) → curveLine 10 s a ≡ x → afterLine2 x v (curveOf 10 s a) s ≡ read h → Sound h
-  line2-sound v a (At b) e q = line3-sound v a b (curveLine 12 s b) refl (curve-few 10 s a b e) q
+  line2-sound : (v : ℕ → ℤ) (a : ℕ) (x : Next) → curveLine DA s a ≡ x → afterLine2 x v (curveSaid DA s a) s ≡ read h → Sound h
+  line2-sound v a (At b) e q = line3-sound v a b (curveLine RT s b) refl (curve-few DA s a b e) q
   line2-sound v a Wrong e q = absurd (never-read q)
 
   line1-sound : (x : Next) → afterLine1 x s 0 ≡ read h → Sound h
-  line1-sound (At a) q = line2-sound (valueIn 0 s 0) a (curveLine 10 s a) refl q
+  line1-sound (At a) q = line2-sound (valueIn AHEAD s 0) a (curveLine DA s a) refl q
   line1-sound Wrong q = absurd (never-read q)
 
   pub read-sound : blockOf s ≡ read h → Sound h
   unfolding blockOf blockAt
-  read-sound q = line1-sound (lineAt 0 10 s 0) q
+  read-sound q = line1-sound (aheadLine s 0) q

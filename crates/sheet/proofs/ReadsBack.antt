@@ -17,18 +17,19 @@ use Rattle.tariff.specs.Reply.{clear}
 use Rattle.tariff.specs.Hour.{blank, form, range}
 use Rattle.tariff.proofs.Tests.{and-left, and-right}
 use Rattle.tariff.proofs.Ranges.{ahead-fits, curve-fits, form-says, range-says}
+use Rattle.keys.specs.Keys.{AHEAD, DA, RT}
 use Rattle.lines.specs.Line.{closes, valueIn}
-use Rattle.lines.specs.Rows.{counted, rowsAt}
-use Rattle.blocks.specs.CurveLine.{curveLine, curveOf}
-use Rattle.blocks.specs.Block.{withRows, afterLine2, blockAt, blockOf, read}
+use Rattle.lines.specs.Series.{lineCount}
+use Rattle.blocks.specs.CurveLine.{curveLine, curveSaid}
+use Rattle.blocks.specs.Block.{intervalLines, withSeries, afterLine2, blockAt, blockOf, read}
 use Rattle.lines.specs.Print.{line}
-use Rattle.sheet.specs.Print.{ahead, curve, intervals, textOf, Plain}
+use Rattle.sheet.specs.Print.{aheadTexts, curveText, intervalsText, textOf, Plain}
 use Rattle.lines.proofs.Holds.{Holds, holds-split, holds-end}
 use Rattle.lines.proofs.Fill.{filled-same}
 use Rattle.lines.proofs.Prints.{say-at, LineSaid, line-said}
 use Rattle.sheet.proofs.PrintsCurve.{curve-line-said, curve-said}
 use Rattle.sheet.proofs.ReadHours.{read-sound}
-use Rattle.sheet.proofs.PrintsHour.{aheadValues, ahead-say, ahead-back, Row, rows-said, each-said, rows-counted}
+use Rattle.sheet.proofs.PrintsHour.{aheadValues, ahead-say, ahead-back, Row, series-said, each-said, series-counted}
 
 hour-within : (z : ℤ) → isHour z ≡ true → Within 23 z
 hour-within z e = omega (arithℤ, apart z, and-left (leZ (pos 0) z) (leZ z (pos 23)) e, and-right (leZ (pos 0) z) (leZ z (pos 23)) e)
@@ -43,48 +44,50 @@ module _ (h : Hour) (f : form h ≡ clear) (r : range h ≡ clear) (p : Plain h)
   -- the text's lines, one behind the other
   module _ (s : List ℕ) where
     abbrev place2 : ℕ
-    place2 = 0 + length (line 0 10 (ahead h))
+    place2 = 0 + length (line AHEAD 10 (aheadTexts h))
 
     abbrev place3 : ℕ
-    place3 = place2 + length (curve 10 (h .da))
+    place3 = place2 + length (curveText DA (h .da))
 
     abbrev place4 : ℕ
-    place4 = place3 + length (curve 12 (h .rt))
+    place4 = place3 + length (curveText RT (h .rt))
 
     record Lines : Type 0 where
-      one : Holds s 0 (line 0 10 (ahead h))
-      two : Holds s place2 (curve 10 (h .da))
-      three : Holds s place3 (curve 12 (h .rt))
-      more : Holds s place4 (intervals (h .n) h)
-      end : closes s (place4 + length (intervals (h .n) h)) ≡ true
+      one : Holds s 0 (line AHEAD 10 (aheadTexts h))
+      two : Holds s place2 (curveText DA (h .da))
+      three : Holds s place3 (curveText RT (h .rt))
+      more : Holds s place4 (intervalsText (h .n) h)
+      end : closes s (place4 + length (intervalsText (h .n) h)) ≡ true
 
     module _ (o : Lines) where
-      said : LineSaid 0 (ahead h) (λ j. getD (aheadValues h) j (pos 0)) s 0 10
-      said = line-said 0 _ _ s 0 10 (say-at 0 (ahead h) (aheadValues h) (ahead-say h (hour-within (h .hour) (range-says h r .0)) (ahead-fits (h .ahead) (range-says h r .1)))) (omega arith) (o .one)
+      said : LineSaid AHEAD (aheadTexts h) (λ j. getD (aheadValues h) j (pos 0)) s 0 10
+      said =
+          let say = ahead-say h (hour-within (h .hour) (range-says h r .0)) (ahead-fits (h .ahead) (range-says h r .1)) in
+          line-said AHEAD _ _ s 0 10 (say-at AHEAD (aheadTexts h) (aheadValues h) say) (omega arith) (o .one)
 
       row : (i : ℕ) → i < h .n → Row h (range-says h r .4) s place4 i
-      row = rows-said h (range-says h r .4) s place4 (h .n) (omega arith) (o .more)
+      row = series-said h (range-says h r .4) s place4 (h .n) (omega arith) (o .more)
 
-      rows-read : rowsAt 16 20 4 30 s place4 0 ≡ counted (h .n)
-      unfolding intervals
-      rows-read = rw add-zero at (rows-counted h (range-says h r .4) s place4 row (h .n) 30 0 (zero-add _) (form-says h f .2) (o .end))
+      series-read : intervalLines s place4 ≡ lineCount (h .n)
+      unfolding intervalsText
+      series-read = rw add-zero at (series-counted h (range-says h r .4) s place4 row (h .n) 30 0 (zero-add _) (form-says h f .2) (o .end))
 
-      curves-read : (v : ℕ → ℤ) → afterLine2 (curveLine 10 s place2) v (curveOf 10 s place2) s ≡ withRows v (h .da) (h .rt) s place4 (counted (h .n))
+      curves-read : (v : ℕ → ℤ) → afterLine2 (curveLine DA s place2) v (curveSaid DA s place2) s ≡ withSeries v (h .da) (h .rt) s place4 (lineCount (h .n))
       curves-read v =
           let d = curve-fits (h .da) (range-says h r .2) in
           let u = curve-fits (h .rt) (range-says h r .3) in
           rw (
-            curve-line-said (h .da) d s 10 place2 (form-says h f .0) (omega arith) (o .two),
-            curve-said (h .da) d s 10 place2 (form-says h f .0) (omega arith) (o .two) (p .da),
-            curve-line-said (h .rt) u s 12 place3 (form-says h f .1) (omega arith) (o .three),
-            curve-said (h .rt) u s 12 place3 (form-says h f .1) (omega arith) (o .three) (p .rt),
-            rows-read,
+            curve-line-said (h .da) d s DA place2 (form-says h f .0) (omega arith) (o .two),
+            curve-said (h .da) d s DA place2 (form-says h f .0) (omega arith) (o .two) (p .da),
+            curve-line-said (h .rt) u s RT place3 (form-says h f .1) (omega arith) (o .three),
+            curve-said (h .rt) u s RT place3 (form-says h f .1) (omega arith) (o .three) (p .rt),
+            series-read,
           )
 
       lines-read : blockOf s ≡ read h
       unfolding blockOf blockAt
       lines-read =
-          rw (said .place, curves-read (valueIn 0 s 0), said .values 0 (omega arith), ahead-back h (valueIn 0 s 0) (said .values))
+          rw (said .place, curves-read (valueIn AHEAD s 0), said .values 0 (omega arith), ahead-back h (valueIn AHEAD s 0) (said .values))
           (ap (λ (l : List Interval). read (record { hour = h .hour; ahead = h .ahead; da = h .da; rt = h .rt; n = h .n; iv = l }))
           (filled-same _ _ blank (h .n) 30 (each-said h (range-says h r .4) s place4 row) ∙ sym (p .iv)))
 
@@ -93,10 +96,10 @@ module _ (h : Hour) (f : form h ≡ clear) (r : range h ≡ clear) (p : Plain h)
   unfolding textOf
   text-lines =
       let whole = holds-end [] (textOf h) in
-      let a = holds-split (textOf h) 0 (line 0 10 (ahead h)) _ whole in
-      let b = holds-split (textOf h) (place2 (textOf h)) (curve 10 (h .da)) _ (a .1) in
-      let c = holds-split (textOf h) (place3 (textOf h)) (curve 12 (h .rt)) (intervals (h .n) h) (b .1) in
-      record { one = a .0; two = b .0; three = c .0; more = c .1; end = ends-behind (line 0 10 (ahead h)) (curve 10 (h .da)) (curve 12 (h .rt)) (intervals (h .n) h) }
+      let a = holds-split (textOf h) 0 (line AHEAD 10 (aheadTexts h)) _ whole in
+      let b = holds-split (textOf h) (place2 (textOf h)) (curveText DA (h .da)) _ (a .1) in
+      let c = holds-split (textOf h) (place3 (textOf h)) (curveText RT (h .rt)) (intervalsText (h .n) h) (b .1) in
+      record { one = a .0; two = b .0; three = c .0; more = c .1; end = ends-behind (line AHEAD 10 (aheadTexts h)) (curveText DA (h .da)) (curveText RT (h .rt)) (intervalsText (h .n) h) }
 
   pub text-read : blockOf (textOf h) ≡ read h
   text-read = lines-read (textOf h) text-lines

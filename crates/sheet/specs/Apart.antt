@@ -4,14 +4,16 @@ use mathlib.Core.List.{List, _++_}
 use Prim.Native.Nat.{ℕ, _+_}
 use lib.ListN.{length}
 use Rattle.text.specs.declared.Next.the-variants.{At}
-use Rattle.lines.specs.Line.{andThen, lineAt}
+use Rattle.keys.specs.Keys.{DA, RT}
+use Rattle.lines.specs.Line.{andThen}
 use Rattle.blocks.specs.CurveLine.{curveLine}
+use Rattle.blocks.specs.Block.{aheadLine}
 
 -- line 1 of a text ends where `first` does, and its two curve lines where `curves` does
 pub record InThree (s first curves rest : List ℕ) : Type 0 where
   pub parts : s ≡ first ++ curves ++ rest
-  pub line1 : lineAt 0 10 s 0 ≡ At (length first)
-  pub lines23 : andThen (curveLine 10 s (length first)) (curveLine 12 s) ≡ At (length first + length curves)
+  pub line1 : aheadLine s 0 ≡ At (length first)
+  pub lines23 : andThen (curveLine DA s (length first)) (curveLine RT s) ≡ At (length first + length curves)
 
 pub record CurvesApart (s t : List ℕ) : Type 0 where
   pub first : List ℕ

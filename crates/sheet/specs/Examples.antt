@@ -13,17 +13,17 @@ use Rattle.tariff.specs.Hour.{blank}
 use Rattle.text.specs.Text.{bytes, keyAt}
 use Rattle.text.specs.Number.{digitAt, moreDigits, naturalAt, numberAt}
 use Rattle.lines.specs.Line.{valueAt, fieldAt, afterFields, valueIn, lineAt, closes}
-use Rattle.lines.specs.Rows.{rowPlace, rowIn, counted, brokenRow, rowsAt}
-use Rattle.blocks.specs.Block.{Block, intervalAt, blockAt, blockOf, broken, read}
-use Rattle.blocks.specs.CurveLine.{afterPairs, endIn, priceIn, curveLine, curveOf}
+use Rattle.lines.specs.Series.{seriesPlace, seriesIn, lineCount, brokenLine, seriesAt}
+use Rattle.blocks.specs.Block.{Block, intervalLine, intervalAt, blockAt, blockOf, broken, read}
+use Rattle.blocks.specs.CurveLine.{curveLine, curveSaid}
 use Rattle.sheet.specs.Apart.{CurvesApart}
 use Rattle.text.specs.Decimal.{natural}
 use Rattle.lines.specs.Print.{fields, line}
-use Rattle.sheet.specs.Print.{pairs, curve, intervals, textOf}
+use Rattle.sheet.specs.Print.{pairsText, curveText, intervalsText, textOf}
 
 -- what a proof by computation opens
 reading : List ℕ → Block
-unfolding blockOf blockAt rowsAt rowIn rowPlace curveOf curveLine priceIn endIn afterPairs closes lineAt valueIn afterFields fieldAt valueAt keyAt numberAt naturalAt moreDigits digitAt upTo
+unfolding blockOf blockAt seriesAt seriesIn seriesPlace curveSaid curveLine closes lineAt valueIn afterFields fieldAt valueAt keyAt numberAt naturalAt moreDigits digitAt upTo
 reading s = blockOf s
 
 abbrev line1 : List ℕ
@@ -46,15 +46,15 @@ interval energy limit = bytes "s=900 en=" ++ energy ++ bytes " pen=5000 lim=" ++
 abbrev short : List ℕ
 short = bytes "s=9 en=0 ae=0 co=0 eop=0 pen=0 lim=0 uol=0 r1=0 r2=0 r3=0 p1=0 p2=0 p3=0 reg=0 preg=0 breg=0 mv=0 pmv=0 bmv=0\n"
 
-abbrev rows : List ℕ
-rows =
+abbrev series : List ℕ
+series =
     interval (bytes "80000 ae=80000 co=0 eop=90000") (bytes "70000")
     ++ interval (bytes "50000 ae=70000 co=3000 eop=90000") (bytes "45000")
     ++ interval (bytes "110000 ae=110000 co=0 eop=120000") (bytes "100000")
     ++ interval (bytes "100000 ae=95000 co=0 eop=100000") (bytes "95000")
 
-abbrev pub listing : List ℕ
-listing = line1 ++ (line2 ++ line3) ++ rows
+abbrev pub listingText : List ℕ
+listingText = line1 ++ (line2 ++ line3) ++ series
 
 -- its record: an interval by en, ae, co, eop and lim
 abbrev row : ℕ → ℕ → ℕ → ℕ → ℕ → Interval
@@ -93,16 +93,16 @@ listed =
       iv = row 80000 80000 0 90000 70000 ∷ row 50000 70000 3000 90000 45000 ∷ row 110000 110000 0 120000 100000 ∷ row 100000 95000 0 100000 95000 ∷ replicate 26 blank;
     }
 
-pub listing-reads : blockOf listing ≡ read listed
+pub listing-reads : blockOf listingText ≡ read listed
 unfolding reading
 listing-reads = refl
 
-listing-printed : textOf listed ≡ listing
-unfolding textOf intervals curve pairs line fields natural
+listing-printed : textOf listed ≡ listingText
+unfolding textOf intervalsText curveText pairsText line fields natural
 listing-printed = refl
 
 -- what stands behind an empty line is not read
-closed-reads : blockOf (listing ++ bytes "\nhour=15 and more") ≡ blockOf listing
+closed-reads : blockOf (listingText ++ bytes "\nhour=15 and more") ≡ blockOf listingText
 unfolding reading
 closed-reads = refl
 
@@ -180,11 +180,11 @@ unfolding reading
 minus-alone = refl
 
 -- after 29 interval lines one more is the last: the next is line 34, whatever it holds
-thirty-lines : rowsAt 16 20 4 1 short 0 29 ≡ counted 30
+thirty-lines : seriesAt intervalLine 4 1 short 0 29 ≡ lineCount 30
 unfolding reading
 thirty-lines = refl
 
-line-too-many : rowsAt 16 20 4 1 (short ++ bytes "?") 0 29 ≡ brokenRow 34
+line-too-many : seriesAt intervalLine 4 1 (short ++ bytes "?") 0 29 ≡ brokenLine 34
 unfolding reading
 line-too-many = refl
 
@@ -203,14 +203,14 @@ limit-of-nothing = refl
 abbrev more : List ℕ
 more = line2 ++ bytes "rt=0 n=3 to=60000 at=2000 to=120000 at=4000 to=130000 at=5000\n"
 
-step-added : CurvesApart listing (line1 ++ more ++ rows)
+step-added : CurvesApart listingText (line1 ++ more ++ series)
 unfolding reading
 step-added =
     record {
       first = line1;
       curves = line2 ++ line3;
       others = more;
-      rest = rows;
+      rest = series;
       one = record { parts = refl; line1 = refl; lines23 = refl };
       other = record { parts = refl; line1 = refl; lines23 = refl };
     }

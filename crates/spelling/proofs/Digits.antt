@@ -11,6 +11,7 @@ use lib.IntN.{ℤ, pos, negℤ}
 use lib.ListN.{drop}
 use Rattle.exact.specs.Choice.{if_then_else_}
 use Rattle.exact.specs.Whole.{Within}
+use Rattle.exact.proofs.Apart.{impossible}
 use Rattle.exact.proofs.Parts.{by-test}
 use Rattle.text.specs.Text.{byteAt}
 use Rattle.text.specs.Number.{digitOf, digitAt, moreDigits, naturalAt, plain, negative, numberAt}
@@ -101,7 +102,7 @@ module _ (s : List ℕ) where
   natural-spelt at w next =
       let d = digitAt s at in
       by-test (eqb d 10) (λ t. (if t then NoDigits else (if eqb d 0 then Natural 0 (at + 1) else moreDigits 6 d s (at + 1))) ≡ Natural w next → DigitsSpelt [] at w next)
-      (λ t e. let z : _≡_ {A = ℕ} 0 1 = cc in absurd (omega arith))
+      (λ t e. impossible cc)
       (λ t.
       let n = eqb-false d 10 t in
       let h = digit-small s at n in
@@ -122,7 +123,7 @@ module _ (s : List ℕ) where
         let r = natural-spelt at v k e in
         let is : NumberSpelt at (pos v) k = record { text = record { bytes = r .text }; small = let u = r .small in omega arith } in
         rw (← p, ← q) is
-    plain-spelt NoDigits e f = let y : _≡_ {A = ℕ} 0 1 = cc in absurd (omega arith)
+    plain-spelt NoDigits e f = impossible cc
 
     minus-spelt : byteAt s at ≡ 45 → (v k : ℕ) → naturalAt s (at + 1) ≡ Natural v k → (v ≡ 0 → ⊥) → NumberSpelt at (negℤ (pos v)) k
     minus-spelt m zero k e n = absurd (n refl)
@@ -134,13 +135,13 @@ module _ (s : List ℕ) where
     negative-spelt : byteAt s at ≡ 45 → (d : Digits) → naturalAt s (at + 1) ≡ d → negative d ≡ Got z next → NumberSpelt at z next
     negative-spelt m (Natural v k) e =
         by-test (eqb v 0) (λ t. (if t then Bad else Got (negℤ (pos v)) k) ≡ Got z next → NumberSpelt at z next)
-        (λ t f. let y : _≡_ {A = ℕ} 0 1 = cc in absurd (omega arith))
+        (λ t f. impossible cc)
         (λ t f.
         let p : negℤ (pos v) ≡ z = cc in
         let q : k ≡ next = cc in
         let is = minus-spelt m v k e (eqb-false v 0 t) in
         rw (← p, ← q) is)
-    negative-spelt m NoDigits e = λ f. let y : _≡_ {A = ℕ} 0 1 = cc in absurd (omega arith)
+    negative-spelt m NoDigits e = λ f. impossible cc
 
     pub number-spelt : numberAt s at ≡ Got z next → NumberSpelt at z next
     unfolding numberAt

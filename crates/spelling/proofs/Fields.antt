@@ -9,6 +9,7 @@ use lib.IntN.{ℤ}
 use lib.ListN.{getD}
 use Rattle.exact.specs.Choice.{if_then_else_}
 use Rattle.exact.specs.Whole.{Within}
+use Rattle.exact.proofs.Apart.{impossible}
 use Rattle.exact.proofs.Parts.{by-test, false-eqZ}
 use Rattle.exact.proofs.Sums.{up-at}
 use Rattle.text.specs.Text.{byteAt, keyAt}
@@ -18,29 +19,29 @@ use Rattle.text.specs.declared.Number.{Number}
 use Rattle.text.specs.declared.Number.the-variants.{Got, Bad}
 use Rattle.text.specs.declared.Next.{Next}
 use Rattle.text.specs.declared.Next.the-variants.{At, Wrong}
-use Rattle.keys.specs.Keys.{keyOf}
-use Rattle.lines.specs.Line.{orMissing, valueAt, valueAfter, fieldAt, placeOf, valueOf, andThen, afterFields, valueFrom, valueIn, lineAt}
+use Rattle.keys.specs.Keys.{keyOf, UOL, mayMiss}
+use Rattle.lines.specs.Line.{orMissing, valueAt, valueAfter, fieldAt, nextOf, valueOf, andThen, afterFields, valueFrom, valueIn, lineAt}
 use Rattle.lines.specs.Print.{fields, line}
 use Rattle.lines.proofs.Along.{never-at}
 use Rattle.records.specs.Records.{uolOf}
-use Rattle.sheet.specs.Print.{limit}
+use Rattle.sheet.specs.Print.{uolText}
 use Rattle.spelling.specs.Spelt.{Spelt}
 use Rattle.spelling.specs.Value.{valueText, valueTexts}
 use Rattle.spelling.proofs.Places.{none-spelt, both-spelt, byte-spelt, key-spelt, fed-spelt}
 use Rattle.spelling.proofs.Digits.{number-spelt}
 
 never-got : {z : ℤ} {next : ℕ} → Bad ≡ Got z next → ⊥
-never-got e = let y : _≡_ {A = ℕ} 0 1 = cc in omega arith
+never-got e = impossible cc
 
 -- ---- a value
-limit-number : (z : ℤ) → Within 9999999 z → limit (uolOf z) ≡ number z
+limit-number : (z : ℤ) → Within 9999999 z → uolText (uolOf z) ≡ number z
 limit-number z w = rw (false-eqZ z missing (λ e. let q = rw e at w in omega arith))
 
 module _ (s : List ℕ) (at : ℕ) (z : ℤ) (next : ℕ) where
-  limit-spelt : (n : Number) → numberAt s at ≡ n → orMissing n s at ≡ Got z next → Spelt s at (limit (uolOf z)) next
+  limit-spelt : (n : Number) → numberAt s at ≡ n → orMissing n s at ≡ Got z next → Spelt s at (uolText (uolOf z)) next
   limit-spelt (Got v k) e = λ f. let r = number-spelt s at z next (e ∙ f) in rw (limit-number z (r .small)) (r .text)
   limit-spelt Bad e =
-      by-test (eqb (byteAt s at) 45) (λ t. (if t then Got missing (at + 1) else Bad) ≡ Got z next → Spelt s at (limit (uolOf z)) next)
+      by-test (eqb (byteAt s at) 45) (λ t. (if t then Got missing (at + 1) else Bad) ≡ Got z next → Spelt s at (uolText (uolOf z)) next)
       (λ t f.
       let p : missing ≡ z = cc in
       let q : at + 1 ≡ next = cc in
@@ -50,13 +51,13 @@ module _ (s : List ℕ) (at : ℕ) (z : ℤ) (next : ℕ) where
   value-spelt : (k : ℕ) → valueAt k s at ≡ Got z next → Spelt s at (valueText k z) next
   unfolding valueAt valueText
   value-spelt k =
-      by-test (eqb k 23) (λ t. (if t then orMissing (numberAt s at) s at else numberAt s at) ≡ Got z next → Spelt s at (if t then limit (uolOf z) else number z) next)
+      by-test (mayMiss k) (λ t. (if t then orMissing (numberAt s at) s at else numberAt s at) ≡ Got z next → Spelt s at (if t then uolText (uolOf z) else number z) next)
       (λ t. limit-spelt (numberAt s at) refl)
       (λ t e. number-spelt s at z next e .text)
 
-pub value-number : (k : ℕ) (z : ℤ) → (k ≡ 23 → ⊥) → valueText k z ≡ number z
+pub value-number : (k : ℕ) (z : ℤ) → (k ≡ UOL → ⊥) → valueText k z ≡ number z
 unfolding valueText
-value-number k z n = rw (ne-eqb k 23 n)
+value-number k z n = rw (ne-eqb k UOL n)
 
 -- ---- a key and its value
 field-spelt : (k : ℕ) (s : List ℕ) (at : ℕ) (z : ℤ) (next : ℕ) → fieldAt k s at ≡ Got z next → Spelt s at (keyOf k ++ valueText k z) next
@@ -68,7 +69,8 @@ field-spelt k s at z next = go (keyAt (keyOf k) s at) refl
     go Wrong p e = absurd (never-got e)
 
 -- the place behind it, and the value there
-place-spelt : (k : ℕ) (s : List ℕ) (at next : ℕ) (x : List ℕ) (v : Number) → fieldAt k s at ≡ v → placeOf v ≡ At next → x ≡ valueText k (valueOf v) → Spelt s at (keyOf k ++ x) next
+place-spelt : (k : ℕ) (s : List ℕ) (at next : ℕ) (x : List ℕ) (v : Number) → fieldAt k s at ≡ v → nextOf v ≡ At next → x ≡ valueText k (valueOf v)
+    → Spelt s at (keyOf k ++ x) next
 place-spelt k s at next x (Got z i) p e t =
     let same : i ≡ next = cc in
     rw t (field-spelt k s at z next (p ∙ ap (Got z) same))
@@ -80,7 +82,7 @@ module _ (first : ℕ) (s : List ℕ) (at : ℕ) where
   Texts n texts = (j : ℕ) → j < n → getD texts j [] ≡ valueText (first + j) (valueIn first s at j)
 
   fields-more : (n next : ℕ) (x y : List ℕ) (a : Next) → ((i : ℕ) → a ≡ At i → Spelt s at x i) → y ≡ valueText (first + n) (valueFrom (first + n) s a)
-      → andThen a (λ i. placeOf (fieldAt (first + n) s i)) ≡ At next → Spelt s at (x ++ (keyOf (first + n) ++ y)) next
+      → andThen a (λ i. nextOf (fieldAt (first + n) s i)) ≡ At next → Spelt s at (x ++ (keyOf (first + n) ++ y)) next
   fields-more n next x y (At i) before t e = both-spelt (before i refl) (place-spelt (first + n) s i next y (fieldAt (first + n) s i) refl e t)
   fields-more n next x y Wrong before t e = absurd (never-at e)
 

@@ -2,7 +2,7 @@
 pub mod Places
 pub mod Digits
 pub mod Fields
-pub mod Rows
+pub mod Series
 pub mod Curves
 pub mod Ends
 pub mod Blocks

@@ -11,8 +11,8 @@ use Rattle.tariff.specs.Reply.{clear}
 use Rattle.tariff.specs.Hour.{form, range}
 use Rattle.blocks.specs.Block.{blockOf, read}
 use Rattle.sheet.specs.Print.{textOf, Plain}
-use Rattle.header.specs.Header.{numberOn, headerFault, marksOf}
-use Rattle.ledger.specs.Day.{bodyOf}
+use Rattle.header.specs.Header.{headerFault, unitOf, marksOf}
+use Rattle.ledger.specs.Day.{frontOf}
 use Rattle.imports.specs.Import as import
 use Rattle.imports.specs.Import.{nameIn, ctsIn, headFault, importBody, importBlockAt}
 use Rattle.spelling.specs.Spelt.{Bytes, IsText}
@@ -39,12 +39,11 @@ pub a-text-is-read-to-a-record-exactly-when-it-is-its-text :
     → (blockOf s ≡ read h) ↔ IsText s (textOf h)
 a-text-is-read-to-a-record-exactly-when-it-is-its-text s h b f r p = (block-text s h b, text-back s h f r p)
 
--- A sheet whose header is not refused begins with the printed header of its unit, the number of its second line, and of its marks. Behind
--- it stand the blocks.
+-- A sheet whose header is not refused begins with the printed header of its unit and its marks. Behind it stand the blocks.
 pub a-header-that-is-read-is-its-text :
     (hours : ℕ) (s : List ℕ)
     → headerFault hours s ≡ clear
-    → s ≡ headerText hours (numberOn hours 1 s) (marksOf hours s) ++ bodyOf hours s
+    → s ≡ headerText hours (unitOf hours s) (marksOf hours s) ++ frontOf hours s .body
 a-header-that-is-read-is-its-text = header-text
 
 -- An import whose first two lines are not refused begins with them as they are printed of its name and its mark, and a block of it that is

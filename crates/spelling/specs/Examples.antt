@@ -6,14 +6,14 @@ use Rattle.exact.specs.Whole.{upTo}
 use Rattle.text.specs.Text.{bytes, keyAt}
 use Rattle.text.specs.Number.{digitAt, moreDigits, naturalAt, numberAt}
 use Rattle.lines.specs.Line.{valueAt, fieldAt, afterFields, valueIn, lineAt, closes}
-use Rattle.lines.specs.Rows.{rowPlace, rowIn, rowsAt}
+use Rattle.lines.specs.Series.{seriesPlace, seriesIn, seriesAt}
 use Rattle.blocks.specs.Block.{Block, blockAt, blockOf}
-use Rattle.blocks.specs.CurveLine.{afterPairs, endIn, priceIn, curveLine, curveOf}
+use Rattle.blocks.specs.CurveLine.{curveLine, curveSaid}
 use Rattle.spelling.specs.Spelt.{IsText, ended, closed}
 
 -- what a proof by computation opens
 reading : List ℕ → Block
-unfolding blockOf blockAt rowsAt rowIn rowPlace curveOf curveLine priceIn endIn afterPairs closes lineAt valueIn afterFields fieldAt valueAt keyAt numberAt naturalAt moreDigits digitAt upTo
+unfolding blockOf blockAt seriesAt seriesIn seriesPlace curveSaid curveLine closes lineAt valueIn afterFields fieldAt valueAt keyAt numberAt naturalAt moreDigits digitAt upTo
 reading s = blockOf s
 
 abbrev least : List ℕ

@@ -7,25 +7,26 @@ use Rattle.tariff.specs.declared.Curtailed.{Curtailed}
 use Rattle.tariff.specs.declared.ImportHour.{ImportHour}
 use Rattle.tariff.specs.Units.{kw, price, seconds}
 use Rattle.tariff.specs.Import.{curtailed}
-use Rattle.text.specs.Text.{bytes}
+use Rattle.text.specs.Text.{LF, bytes}
 use Rattle.text.specs.Decimal.{natural, number}
+use Rattle.keys.specs.Keys.{IMPORT, IMPORT-HOUR, CURTAILED}
 use Rattle.lines.specs.Print.{fields, line}
 
 -- the first two lines
 unfoldable pub headText : (name cts : ℤ) → List ℕ
-headText name cts = line 36 2 (number name ∷ number cts ∷ []) ++ (10 ∷ [])
+headText name cts = line IMPORT 2 (number name ∷ number cts ∷ []) ++ (LF ∷ [])
 
 -- a line `s cut prof rten lbmp bid def`
-abbrev pub amounts : Curtailed → List (List ℕ)
-amounts v =
+abbrev pub curtailedTexts : Curtailed → List (List ℕ)
+curtailedTexts v =
     number (v .s .0) ∷ number (v .cut) ∷ number (v .prof .0) ∷ number (v .rten .0) ∷ number (v .lbmp .0) ∷ number (v .bid .0) ∷ number (v .def .0) ∷ []
 
-unfoldable pub intervals : ℕ → ImportHour → List ℕ
-intervals zero h = []
-intervals (suc n) h = intervals n h ++ line 41 7 (amounts (curtailed h n))
+unfoldable pub curtailedText : ℕ → ImportHour → List ℕ
+curtailedText zero h = []
+curtailedText (suc n) h = curtailedText n h ++ line CURTAILED 7 (curtailedTexts (curtailed h n))
 
 unfoldable pub blockText : ImportHour → List ℕ
-blockText h = line 38 3 (number (h .hour) ∷ number (h .den .0) ∷ number (h .dec .0) ∷ []) ++ intervals (h .n) h
+blockText h = line IMPORT-HOUR 3 (number (h .hour) ∷ number (h .den .0) ∷ number (h .dec .0) ∷ []) ++ curtailedText (h .n) h
 
 -- ---- examples
 head : headText (pos 77) (pos 0) ≡ bytes "import=77 cts=0\n\n"
@@ -41,5 +42,5 @@ block : blockText
       iv = record { s = seconds (pos 900); cut = pos 1; prof = kw (pos 100000); rten = kw (pos 60000); lbmp = price (pos 5000); bid = price (pos 3000); def = price (pos 4000) } ∷ [];
     })
     ≡ bytes "hour=0 den=100000 dec=-200\ns=900 cut=1 prof=100000 rten=60000 lbmp=5000 bid=3000 def=4000\n"
-unfolding blockText intervals line fields natural
+unfolding blockText curtailedText line fields natural
 block = refl

@@ -2,34 +2,34 @@
 use mathlib.Core.Path.{_≡_, refl}
 use mathlib.Core.List.{List}
 use Prim.Native.Nat.{ℕ, _+_}
-use lib.Dec.{eqb}
 use lib.IntN.{ℤ, pos}
 use Rattle.exact.specs.Choice.{if_then_else_}
 use Rattle.exact.specs.Whole.{upTo}
 use Rattle.text.specs.Text.{bytes}
 use Rattle.text.specs.Number.{missing}
 use Rattle.text.specs.Decimal.{natural, number}
+use Rattle.keys.specs.Keys.{AHEAD, UOL, mayMiss}
 use Rattle.lines.specs.Line.{valueIn}
 use Rattle.records.specs.Records.{uolOf}
-use Rattle.sheet.specs.Print.{limit}
+use Rattle.sheet.specs.Print.{uolText}
 
--- the value behind key k: 23 is `uol`, which alone may be missing
+-- the value behind key k, as a limit where it may be missing
 unfoldable pub valueText : ℕ → ℤ → List ℕ
-valueText k z = if eqb k 23 then limit (uolOf z) else number z
+valueText k z = if mayMiss k then uolText (uolOf z) else number z
 
 -- the values of n fields that are read at a place, from key `first` on
 unfoldable pub valueTexts : (first n : ℕ) → List ℕ → ℕ → List (List ℕ)
 valueTexts first n s at = upTo (λ j. valueText (first + j) (valueIn first s at j)) n
 
 -- ---- examples
-hour : valueText 0 (pos 14) ≡ bytes "14"
+hour : valueText AHEAD (pos 14) ≡ bytes "14"
 unfolding valueText natural
 hour = refl
 
-given : valueText 23 (pos 90000) ≡ bytes "90000"
+given : valueText UOL (pos 90000) ≡ bytes "90000"
 unfolding valueText natural
 given = refl
 
-not-given : valueText 23 missing ≡ bytes "-"
+not-given : valueText UOL missing ≡ bytes "-"
 unfolding valueText
 not-given = refl

@@ -8,6 +8,7 @@ use lib.IntN.{ℤ, pos, negℤ, _+ℤ_, negℤ-negℤ}
 use lib.Signed.{leZ}
 use Rattle.exact.specs.Choice.{if_then_else_}
 use Rattle.exact.specs.Whole.{span}
+use Rattle.exact.proofs.Apart.{impossible}
 use Rattle.exact.proofs.Parts.{arithℤ, add-parts, min-parts, max-parts, span-parts, by-test}
 use Rattle.tariff.specs.declared.Curve.{Curve}
 use Rattle.tariff.specs.Curve.{Amount, known, none, quote, plus, change, sumUp, integral}
@@ -24,7 +25,7 @@ none-plus (known x) = refl
 none-plus none = refl
 
 pub change-none : (f : ℤ → ℤ) (x : Amount) → change f x ≡ none → x ≡ none
-change-none f (known x) e = absurd (let z : _≡_ {A = ℕ} 0 1 = cc in omega arith)
+change-none f (known x) e = impossible cc
 change-none f none e = refl
 
 neg-neg : (x : Amount) → change negℤ (change negℤ x) ≡ x
@@ -61,7 +62,7 @@ sum-up-none f a (suc m) gap = go (sum-up-none f a m) (decLt (gap .at) m)
 
 pub none-sum-up : (f : ℤ → Amount) (a : ℤ) (m : ℕ) → sumUp f a m ≡ none → Gap f a m
 unfolding sumUp
-none-sum-up f a zero e = absurd (let z : _≡_ {A = ℕ} 0 1 = cc in omega arith)
+none-sum-up f a zero e = impossible cc
 none-sum-up f a (suc m) e = go (sumUp f a m) (f (a +ℤ pos m)) refl refl (none-sum-up f a m) e
   where
     wider : Gap f a m → Gap f a (suc m)
@@ -70,7 +71,7 @@ none-sum-up f a (suc m) e = go (sumUp f a m) (f (a +ℤ pos m)) refl refl (none-
     go : (x y : Amount) → sumUp f a m ≡ x → f (a +ℤ pos m) ≡ y → (sumUp f a m ≡ none → Gap f a m) → plus x y ≡ none → Gap f a (suc m)
     go none y p q ih e = wider (ih p)
     go (known x) none p q ih e = record { at = m; below = omega arith; missing = q }
-    go (known x) (known y) p q ih e = absurd (let z : _≡_ {A = ℕ} 0 1 = cc in omega arith)
+    go (known x) (known y) p q ih e = impossible cc
 
 -- ---- the kilowatts between two ends
 
@@ -89,22 +90,25 @@ between-at a b k h w = omega (arithℤ, add-parts a (pos (span a k)), span-parts
 
 -- ---- the integral
 
--- the way back over a stretch
-back : (c : Curve) (a b : ℤ) → leZ a b ≡ true → integral c b a ≡ change negℤ (integral c a b)
-unfolding integral
-back c a b e =
-    rw e
-    (by-test (leZ b a)
-    (λ t. (if t then sumUp (quote c) b (span b a) else change negℤ (sumUp (quote c) a (span a b))) ≡ change negℤ (sumUp (quote c) a (span a b)))
-    (λ h. rw (sum-nothing (quote c) b (span b a) (omega (arithℤ, span-parts b a)), sum-nothing (quote c) a (span a b) (omega (arithℤ, span-parts a b))))
-    (λ h. refl))
+-- a stretch either way, over any prices
+module _ (f : ℤ → Amount) where
+  abbrev along : (a b : ℤ) → Amount
+  along a b = if leZ a b then sumUp f a (span a b) else change negℤ (sumUp f b (span b a))
 
-pub integral-turned : (c : Curve) (a b : ℤ) → integral c a b ≡ change negℤ (integral c b a)
-integral-turned c a b =
-    by-test (leZ a b)
-    (λ t. integral c a b ≡ change negℤ (integral c b a))
-    (λ e. sym (neg-neg (integral c a b)) ∙ ap (change negℤ) (sym (back c a b e)))
-    (λ e. back c b a (omega arithℤ))
+  back : (a b : ℤ) → leZ a b ≡ true → along b a ≡ change negℤ (along a b)
+  back a b e =
+      rw e
+      (by-test (leZ b a)
+      (λ t. (if t then sumUp f b (span b a) else change negℤ (sumUp f a (span a b))) ≡ change negℤ (sumUp f a (span a b)))
+      (λ h. rw (sum-nothing f b (span b a) (omega (arithℤ, span-parts b a)), sum-nothing f a (span a b) (omega (arithℤ, span-parts a b))))
+      (λ h. refl))
+
+  pub turned : (a b : ℤ) → along a b ≡ change negℤ (along b a)
+  turned a b =
+      by-test (leZ a b)
+      (λ t. along a b ≡ change negℤ (along b a))
+      (λ e. sym (neg-neg (along a b)) ∙ ap (change negℤ) (sym (back a b e)))
+      (λ e. back b a (omega arithℤ))
 
 sum-between : (c d : Curve) (a b : ℤ) → ((k : ℤ) → Between a b k → quote c k ≡ quote d k) → sumUp (quote c) a (span a b) ≡ sumUp (quote d) a (span a b)
 sum-between c d a b h = sum-up-same (quote c) (quote d) a (span a b) (λ i u. h (a +ℤ pos i) (between-up a b i u))

@@ -9,7 +9,7 @@ use Rattle.exact.specs.Whole.{Within}
 use Rattle.tariff.specs.declared.Curtailed.{Curtailed}
 use Rattle.tariff.specs.declared.ImportHour.{ImportHour}
 use Rattle.tariff.specs.Sheet.{isHour, isCapacity, isPrice}
-use Rattle.tariff.specs.Reply.{Verdict, clear, unless, _then_, firstOf}
+use Rattle.tariff.specs.Reply.{FORM, RANGE, Verdict, clear, unless, _then_, firstOf}
 use Rattle.tariff.specs.Import.{curtailedInRange, curtailed, importForm, importRange, importOrder, importSeconds, importFault}
 use Rattle.tariff.proofs.Checks.{then-clear, unless-clear, first-clear}
 use Rattle.tariff.proofs.Tests.{and-left, and-right, and-both}
@@ -56,16 +56,16 @@ first-fits h e =
 
 pub import-form-says : (h : ImportHour) → importForm h ≡ clear → h .n ≤ 30
 unfolding importForm
-import-form-says h e = leb-true _ _ (unless-clear _ 1 32 e)
+import-form-says h e = leb-true _ _ (unless-clear _ FORM 32 e)
 
 pub import-range-says : (h : ImportHour) → importRange h ≡ clear → FirstFits h × ((i : ℕ) → i < h .n → CurtailedFits (curtailed h i))
 unfolding importRange
 import-range-says h e =
     let first = isHour (h .hour) && isCapacity (h .den .0) && isPrice (h .dec .0) in
-    let each : ℕ → Verdict = λ i. unless (curtailedInRange (curtailed h i)) 2 (i + 2) in
-    let p = then-clear (unless first 2 1) (firstOf each (h .n)) e in (
-      first-fits h (unless-clear first 2 1 (p .0)),
-      λ i u. curtailed-fits (curtailed h i) (unless-clear _ 2 (i + 2) (first-clear each (h .n) (p .1) i u)),
+    let each : ℕ → Verdict = λ i. unless (curtailedInRange (curtailed h i)) RANGE (i + 2) in
+    let p = then-clear (unless first RANGE 1) (firstOf each (h .n)) e in (
+      first-fits h (unless-clear first RANGE 1 (p .0)),
+      λ i u. curtailed-fits (curtailed h i) (unless-clear _ RANGE (i + 2) (first-clear each (h .n) (p .1) i u)),
     )
 
 -- a block without a fault passes both

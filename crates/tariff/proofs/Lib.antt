@@ -1,10 +1,13 @@
 -- What is proved of the definitions: `Demands` states it, the others hold the laws that it cites and those that the engine needs.
 pub mod Tests
 pub mod Checks
+pub mod Turns
+pub mod Stops
+pub mod AnyHour
+pub mod Given
 pub mod Numbers
 pub mod Ordered
-pub mod FirstLines
-pub mod GivenWhen
+pub mod Finds
 pub mod Ranges
 pub mod Curves
 pub mod Scan
@@ -14,16 +17,14 @@ pub mod Reduced
 pub mod Limits
 pub mod Others
 pub mod Needed
-pub mod Replies
-pub mod Payments
+pub mod Alike
 pub mod ByInterval
-pub mod Rows
 pub mod Answers
-pub mod Places
+pub mod HourAnswers
+pub mod Totals
 pub mod Steps
 pub mod ImportRanges
 pub mod ImportGrains
-pub mod ImportDays
 pub mod Imports
 pub mod Demands
 pub mod Unique

@@ -1,80 +1,63 @@
--- The checks of an hour in their order: a number is the reply exactly when no check before its own refuses and its own gives it, whatever
--- a later one would find.
-use mathlib.Core.Path.{_≡_, sym, _∙_, ap}
+-- A generator's checks in their order: FORM, RANGE, ORDER, CURVE and SECONDS over the block, each in its turn, and then DERATE and REACH, which
+-- stop an interval.
+use mathlib.Core.Path.{_≡_, sym, ap, _∙_}
 use mathlib.Core.Bool.{Bool}
-use mathlib.Core.List.{[], _∷_}
-use mathlib.Core.Logic.{_↔_}
-use Prim.Native.Nat.{ℕ, zero, suc, _<_, _≤_}
-use native.Mathlib.Omega.{arith}
-use lib.Dec.{leb, eqb}
-use lib.ListN.{getD}
-use Rattle.exact.specs.Choice.{if_then_else_}
+use mathlib.Core.List.{List, [], _∷_}
+use mathlib.Core.Logic.{_↔_, ⊎-elim}
+use Prim.Native.Nat.{ℕ}
+use lib.ListN.{take}
 use Rattle.tariff.specs.declared.Hour.{Hour}
 use Rattle.tariff.specs.declared.Expected.{Expected}
-use Rattle.tariff.specs.Units.{centsOf}
-use Rattle.tariff.specs.Reply.{paid, refused, DERATE, REACH, ROOM, Verdict, clear, fault, unless, otherwise, firstOf}
-use Rattle.tariff.specs.Hour.{form, range, order, curves, secondsSum, intervals, hourSum, reply}
-use Rattle.tariff.specs.Demand.{NoFaultTo4, NoFaultTo5}
-use Rattle.tariff.proofs.Checks.{then-assoc, otherwise-refused, first-clear, Without, without-unless, first-own}
-use Rattle.tariff.proofs.Numbers.{form-without, range-without, order-without, curves-without, seconds-without, intervals-without}
+use Rattle.tariff.specs.Reply.{FORM, RANGE, ORDER, CURVE, SECONDS, DERATE, REACH, Verdict, clear, _then_}
+use Rattle.tariff.specs.Hour.{form, range, order, curves, secondsSum, outcomeAt, blockFault}
+use Rattle.tariff.specs.Demand.{Lawful, WholeHour}
+use Rattle.tariff.proofs.Checks.{then-nothing}
+use Rattle.tariff.proofs.Turns.{Turn, inTurn, Past, turns-clear}
+use Rattle.tariff.proofs.Given.{AnyHour}
+use Rattle.tariff.proofs.Numbers.{form-only, range-only, order-only, curves-only, seconds-only}
+use Rattle.tariff.proofs.Needed.{stops-are}
 
--- the turn of a number's check: 7 goes with 6, interval by interval
-abbrev pub turnOf : ℕ → ℕ
-turnOf number = if eqb number REACH then DERATE else number
+abbrev pub causes : List ℕ
+causes = DERATE ∷ REACH ∷ []
 
-module _ (h : Hour) (isExcluded : Bool) (expected : Expected) (room : ℕ) where
-  -- what is found in each turn, from 1
-  abbrev pub found : ℕ → Verdict
-  found k =
-      getD
-      (clear ∷ form h ∷ range h ∷ order h expected ∷ curves h ∷ secondsSum h ∷ intervals h isExcluded ∷ clear ∷ unless (leb (h .n) room) ROOM 0 ∷ [])
-      k
-      clear
+module _ (h : Hour) (expected : Expected) where
+  abbrev pub turns : List Turn
+  turns =
+      record { number = FORM; finds = form h; own = form-only h }
+      ∷ record { number = RANGE; finds = range h; own = range-only h }
+      ∷ record { number = ORDER; finds = order h expected; own = order-only h expected }
+      ∷ record { number = CURVE; finds = curves h; own = curves-only h }
+      ∷ record { number = SECONDS; finds = secondsSum h; own = seconds-only h }
+      ∷ []
 
-  pub reply-first : reply h isExcluded expected room ≡ otherwise (firstOf found 9) (paid (hourSum h isExcluded) (centsOf (hourSum h isExcluded)))
-  unfolding reply firstOf
-  reply-first = simp then-assoc
+  pub in-turn : blockFault h expected ≡ inTurn turns
+  unfolding inTurn
+  in-turn = ap (λ (v : Verdict). form h then range h then order h expected then curves h then v) (sym (then-nothing (secondsSum h)))
 
-  -- no turn gives another's number
-  own : (number k : ℕ) → (k ≡ turnOf number → ⊥) → Without number (found k)
-  own n zero other = tt
-  own n (suc zero) other = form-without n h (λ e. other (ap turnOf e))
-  own n (suc (suc zero)) other = range-without n h (λ e. other (ap turnOf e))
-  own n (suc (suc (suc zero))) other = order-without n h expected (λ e. other (ap turnOf e))
-  own n (suc (suc (suc (suc zero)))) other = curves-without n h (λ e. other (ap turnOf e))
-  own n (suc (suc (suc (suc (suc zero))))) other = seconds-without n h (λ e. other (ap turnOf e))
-  own n (suc (suc (suc (suc (suc (suc zero)))))) other = intervals-without n h isExcluded (λ e. other (ap turnOf e)) (λ e. other (ap turnOf e))
-  own n (suc (suc (suc (suc (suc (suc (suc zero))))))) other = tt
-  own n (suc (suc (suc (suc (suc (suc (suc (suc zero)))))))) other = without-unless n (leb (h .n) room) ROOM 0 (λ e. other (ap turnOf e))
-  own n (suc (suc (suc (suc (suc (suc (suc (suc (suc k))))))))) other = tt
+  -- ---- hours that they do not refuse
 
-  pub given-when : (number place : ℕ) → turnOf number < 9
-      → (reply h isExcluded expected room ≡ refused number place)
-      ↔ ((firstOf found (turnOf number) ≡ clear) × (found (turnOf number) ≡ fault number place))
-  given-when number place u =
-      let it = first-own number found 9 (turnOf number) place u (own number) in (
-        λ e. it .0 (otherwise-refused (firstOf found 9) _ _ number place (sym reply-first ∙ e)),
-        λ w. reply-first ∙ rw (it .1 w),
-      )
+  pub past-lawful : {P : Type 0} → Past (take 4 turns) P ↔ (Lawful h expected × P)
+  past-lawful = (
+    λ w. (record { form = w .0; range = w .1 .0; order = w .1 .1 .0; curves = w .1 .1 .1 .0 }, w .1 .1 .1 .1),
+    λ w. (w .0 .form, (w .0 .range, (w .0 .order, (w .0 .curves, w .1)))),
+  )
 
-  -- ---- the turns up to k find nothing
+  pub whole-when : (blockFault h expected ≡ clear) ↔ WholeHour h expected
+  whole-when = (
+    λ e. let w = past-lawful .0 (turns-clear turns .0 (sym in-turn ∙ e)) in record { lawful = w .0; seconds = w .1 .0 },
+    λ f. in-turn ∙ turns-clear turns .1 (past-lawful .1 (f .lawful, (f .seconds, tt))),
+  )
 
-  pub clear-to4 : (k : ℕ) → 5 ≤ k → firstOf found k ≡ clear → NoFaultTo4 h expected
-  clear-to4 k u e =
-      record {
-        form = first-clear found k e 1 (omega arith);
-        range = first-clear found k e 2 (omega arith);
-        order = first-clear found k e 3 (omega arith);
-        curves = first-clear found k e 4 (omega arith);
-      }
+-- ---- with what stops an interval
 
-  pub clear-to5 : (k : ℕ) → 6 ≤ k → firstOf found k ≡ clear → NoFaultTo5 h expected
-  clear-to5 k u e = record { to4 = clear-to4 k (omega arith) e; seconds = first-clear found k e 5 (omega arith) }
-
-  pub to4-clear : NoFaultTo4 h expected → firstOf found 5 ≡ clear
-  unfolding firstOf
-  to4-clear f = rw (f .form, f .range, f .order, f .curves)
-
-  pub to5-clear : NoFaultTo5 h expected → firstOf found 6 ≡ clear
-  unfolding firstOf
-  to5-clear f = rw (to4-clear (f .to4), f .seconds)
+abbrev pub generator : Hour → Bool → Expected → AnyHour
+generator h isExcluded expected =
+    record {
+      block = blockFault h expected;
+      turns = turns h expected;
+      in-turn = in-turn h expected;
+      n = h .n;
+      outcome = outcomeAt h isExcluded;
+      causes = causes;
+      caused = λ i number e. ⊎-elim (λ w. rw w) (λ w. rw w) (stops-are h isExcluded i number e);
+    }

@@ -8,6 +8,7 @@ use native.Mathlib.Decide.{decLt}
 use native.Mathlib.Omega.{arith}
 use lib.Dec.{ltb, eqb}
 use borrow.Author.Tests.{ltb-true, ltb-false, lt-ltb, eqb-true, eqb-false, eq-eqb, ne-eqb}
+use Rattle.exact.proofs.Apart.{impossible}
 use Rattle.exact.proofs.Parts.{by-test}
 use Rattle.tariff.specs.Derate.{ofFive, one, isBefore, rank}
 
@@ -38,8 +39,8 @@ one-apart a b n h =
 halves : (a b c : Bool) → (a || (b && c)) ≡ true → (a ≡ true) ⊎ ((b ≡ true) × (c ≡ true))
 halves true b c e = inl refl
 halves false true true e = inr (refl, refl)
-halves false true false e = absurd (let z : _≡_ {A = ℕ} 0 1 = cc in omega arith)
-halves false false c e = absurd (let z : _≡_ {A = ℕ} 0 1 = cc in omega arith)
+halves false true false e = impossible cc
+halves false false c e = impossible cc
 
 or-true : (a : Bool) → (a || true) ≡ true
 or-true true = refl
@@ -118,6 +119,19 @@ module _ (r : ℕ → ℕ) (apart : (i j : ℕ) → i < j → j < 5 → r i ≡ 
       every : below 5 ≡ 5
       every = five-same (λ j. one (ltb (r j) 5)) (λ j. 1) (λ j v. omega (arith, one-lt (r j) 5, small j v))
 
+-- ---- the larger number, or the same and earlier
+
+pub before-when : (a b i j : ℕ) → ((ltb b a || (eqb a b && ltb i j)) ≡ true) ↔ ((b < a) ⊎ ((a ≡ b) × (i < j)))
+before-when a b i j = (λ e. told (halves (ltb b a) (eqb a b) (ltb i j) e), holds)
+  where
+    told : (ltb b a ≡ true) ⊎ ((eqb a b ≡ true) × (ltb i j ≡ true)) → (b < a) ⊎ ((a ≡ b) × (i < j))
+    told (inl e) = inl (ltb-true b a e)
+    told (inr e) = inr (eqb-true a b (e .0), ltb-true i j (e .1))
+
+    holds : (b < a) ⊎ ((a ≡ b) × (i < j)) → (ltb b a || (eqb a b && ltb i j)) ≡ true
+    holds (inl u) = rw (lt-ltb b a u)
+    holds (inr e) = rw (eq-eqb a b (e .0), lt-ltb i j (e .1)) (or-true (ltb b a))
+
 -- ---- the ranks by remainder
 
 module _ (rem : ℕ → ℕ) where
@@ -132,18 +146,6 @@ module _ (rem : ℕ → ℕ) where
       (λ t. one (t && ltb i j) ≡ min 1 (rem i * 5 + j - (rem j * 5 + i)))
       (λ q. omega (arith, eqb-true (rem i) (rem j) q, one-lt i j))
       (λ q. let differ : rem i ≢ rem j = eqb-false (rem i) (rem j) q in omega (arith, ltb-false (rem j) (rem i) e)))
-
-  -- by a larger remainder, or by the same and earlier in the order
-  pub before-when : (i j : ℕ) → (isBefore rem i j ≡ true) ↔ ((rem j < rem i) ⊎ ((rem i ≡ rem j) × (i < j)))
-  before-when i j = (λ e. told (halves (ltb (rem j) (rem i)) (eqb (rem i) (rem j)) (ltb i j) e), holds)
-    where
-      told : (ltb (rem j) (rem i) ≡ true) ⊎ ((eqb (rem i) (rem j) ≡ true) × (ltb i j ≡ true)) → (rem j < rem i) ⊎ ((rem i ≡ rem j) × (i < j))
-      told (inl e) = inl (ltb-true (rem j) (rem i) e)
-      told (inr e) = inr (eqb-true (rem i) (rem j) (e .0), ltb-true i j (e .1))
-
-      holds : (rem j < rem i) ⊎ ((rem i ≡ rem j) × (i < j)) → isBefore rem i j ≡ true
-      holds (inl u) = rw (lt-ltb (rem j) (rem i) u)
-      holds (inr e) = rw (eq-eqb (rem i) (rem j) (e .0), lt-ltb i j (e .1)) (or-true (ltb (rem j) (rem i)))
 
   rank-lt : (i j : ℕ) → i < 5 → j < 5 → rem j * 5 + i < rem i * 5 + j → rank rem i < rank rem j
   rank-lt i j u v h =

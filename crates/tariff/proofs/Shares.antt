@@ -47,26 +47,20 @@ pub share-small : (pot : ℕ → ℕ) (red j : ℕ) → share pot red j ≤ floo
 unfolding share
 share-small pot red j = omega (arith, one-small (ltb (rank (remainder pot red) j) (leftOver pot red)))
 
-pub share-one : (pot : ℕ → ℕ) (red j : ℕ) → (share pot red j ≡ floorOf pot red j) ⊎ (share pot red j ≡ floorOf pot red j + 1)
-unfolding share
-share-one pot red j = go (ltb (rank (remainder pot red) j) (leftOver pot red))
+-- who is served has one more, and the others none: beside any whole number
+pub one-or-none : (rem : ℕ → ℕ) (left j n : ℕ) → (n + one (ltb (rank rem j) left) ≡ n) ⊎ (n + one (ltb (rank rem j) left) ≡ n + 1)
+one-or-none rem left j n = go (ltb (rank rem j) left)
   where
-    go : (t : Bool) → (floorOf pot red j + one t ≡ floorOf pot red j) ⊎ (floorOf pot red j + one t ≡ floorOf pot red j + 1)
+    go : (t : Bool) → (n + one t ≡ n) ⊎ (n + one t ≡ n + 1)
     go true = inr refl
     go false = inl (omega arith)
 
 -- a schedule that comes before one that is served is served too
-pub served-first : (pot : ℕ → ℕ) (red i j : ℕ) → i < 5 → j < 5 → isBefore (remainder pot red) i j ≡ true
-    → share pot red j ≡ floorOf pot red j + 1
-    → share pot red i ≡ floorOf pot red i + 1
-unfolding share
-served-first pot red i j u v before served =
-    omega (
-      arith,
-      one-lt (rank (remainder pot red) i) (leftOver pot red),
-      one-lt (rank (remainder pot red) j) (leftOver pot red),
-      before-lt (remainder pot red) i j u v before,
-    )
+pub served-first : (rem : ℕ → ℕ) (left i j m n : ℕ) → i < 5 → j < 5 → isBefore rem i j ≡ true
+    → m + one (ltb (rank rem j) left) ≡ m + 1
+    → n + one (ltb (rank rem i) left) ≡ n + 1
+served-first rem left i j m n u v before served =
+    omega (arith, one-lt (rank rem i) left, one-lt (rank rem j) left, before-lt rem i j u v before)
 
 module _ (pot : ℕ → ℕ) (red : ℕ) (fits : red ≤ ofFive pot) where
   -- ---- one schedule

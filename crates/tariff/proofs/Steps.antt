@@ -1,7 +1,6 @@
 -- The steps of a curve: which kilowatts have a price, and that further steps change none.
 use mathlib.Core.Path.{_≡_, refl}
 use mathlib.Core.Bool.{Bool, true, false}
-use mathlib.Core.Logic.{_↔_}
 use Prim.Native.Nat.{ℕ, zero, suc, _+_, _-_, _<_, _≤_}
 use native.Mathlib.Decide.{decLt, decLe}
 use native.Mathlib.Omega.{arith}
@@ -11,11 +10,11 @@ use lib.IntN.{ℤ, pos}
 use lib.Signed.{ltZ, _≤ℤ_, _<ℤ_, ≤ℤ-refl}
 use Rattle.exact.specs.Choice.{if_then_else_}
 use Rattle.exact.specs.Whole.{eqZ}
+use Rattle.exact.proofs.Apart.{impossible}
 use Rattle.exact.proofs.Parts.{arithℤ, by-test}
 use Rattle.tariff.specs.declared.Curve.{Curve}
 use Rattle.tariff.specs.Sheet.{endOf, priceOf, beginOf, allTo, rises, isFair, stepKeeps, curveKeeps}
 use Rattle.tariff.specs.Curve.{known, none, quoteFrom, quote}
-use Rattle.tariff.specs.Demand.{Extends}
 use Rattle.tariff.proofs.Tests.{and-left, all-at}
 
 -- ---- the first step that ends above k
@@ -30,7 +29,7 @@ module _ (ends prices : ℕ → ℤ) where
 
   priced-ending : (j left : ℕ) (k p : ℤ) → quoteFrom ends prices j left k ≡ known p → Ending j left k
   unfolding quoteFrom
-  priced-ending j zero k p e = absurd (let z : _≡_ {A = ℕ} 0 1 = cc in omega arith)
+  priced-ending j zero k p e = impossible cc
   priced-ending j (suc left) k p e = go (ltZ k (ends j)) refl (priced-ending (j + 1) left k p) e
     where
       go : (t : Bool) → ltZ k (ends j) ≡ t → (quoteFrom ends prices (j + 1) left k ≡ known p → Ending (j + 1) left k)
@@ -51,8 +50,7 @@ module _ (ends prices : ℕ → ℤ) where
       past (no u) q =
           let same : w .at ≡ j = let f = w .from in omega arith in
           let above : ltZ k (ends j) ≡ true = rw same at (w .above) in
-          let z : _≡_ {A = ℕ} 0 1 = cc in
-          absurd (omega arith)
+          impossible cc
 
       go : (t : Bool) → ltZ k (ends j) ≡ t → (Ending (j + 1) left k → (p : ℤ) × (quoteFrom ends prices (j + 1) left k ≡ known p))
           → (p : ℤ) × ((if t then known (prices j) else quoteFrom ends prices (j + 1) left k) ≡ known p)
@@ -60,7 +58,7 @@ module _ (ends prices : ℕ → ℤ) where
       go false q ih = ih (record { at = w .at; from = past (decLt j (w .at)) q; below = let u = w .below in omega arith; above = w .above })
 
   -- the first step that ends above k has its price
-  first-ending : (i j left : ℕ) (k : ℤ) → j ≤ i → i < j + left → ((m : ℕ) → m < i → ltZ k (ends m) ≡ false) → ltZ k (ends i) ≡ true
+  pub first-ending : (i j left : ℕ) (k : ℤ) → j ≤ i → i < j + left → ((m : ℕ) → m < i → ltZ k (ends m) ≡ false) → ltZ k (ends i) ≡ true
       → quoteFrom ends prices j left k ≡ known (prices i)
   unfolding quoteFrom
   first-ending i j zero k u v before here = absurd (omega arith)
@@ -79,7 +77,7 @@ from-more : (ends prices ends′ prices′ : ℕ → ℤ) (j left more : ℕ) (k
     → quoteFrom ends prices j left k ≡ known p
     → quoteFrom ends′ prices′ j more k ≡ known p
 unfolding quoteFrom
-from-more ends prices ends′ prices′ j zero more k p u same e = absurd (let z : _≡_ {A = ℕ} 0 1 = cc in omega arith)
+from-more ends prices ends′ prices′ j zero more k p u same e = impossible cc
 from-more ends prices ends′ prices′ j (suc left) zero k p u same e = absurd (omega arith)
 from-more ends prices ends′ prices′ j (suc left) (suc more) k p u same e =
     let here = same j (omega arith) in
@@ -91,14 +89,16 @@ from-more ends prices ends′ prices′ j (suc left) (suc more) k p u same e =
     go true ih e = e
     go false ih e = ih e
 
-pub more-steps : (c d : Curve) → c .start ≡ d .start → c .n ≤ d .n → ((j : ℕ) → j < c .n → (endOf c j ≡ endOf d j) × (priceOf c j ≡ priceOf d j)) → Extends c d
-unfolding quote
-more-steps c d s u same = record { keeps = λ k p. rw (← s) (go k p (ltZ k (c .start .0))) }
+pub more-quoted : (ends prices ends′ prices′ : ℕ → ℤ) (n m : ℕ) (start k : ℤ) → n ≤ m
+    → ((i : ℕ) → i < n → (ends i ≡ ends′ i) × (prices i ≡ prices′ i))
+    → (p : ℤ)
+    → (if ltZ k start then none else quoteFrom ends prices 0 n k) ≡ known p
+    → (if ltZ k start then none else quoteFrom ends′ prices′ 0 m k) ≡ known p
+more-quoted ends prices ends′ prices′ n m start k u same p = go (ltZ k start)
   where
-    go : (k p : ℤ) (t : Bool) → (if t then none else quoteFrom (endOf c) (priceOf c) 0 (c .n) k) ≡ known p
-        → (if t then none else quoteFrom (endOf d) (priceOf d) 0 (d .n) k) ≡ known p
-    go k p true e = e
-    go k p false e = from-more (endOf c) (priceOf c) (endOf d) (priceOf d) 0 (c .n) (d .n) k p u (λ i v. same i (omega arith)) e
+    go : (t : Bool) → (if t then none else quoteFrom ends prices 0 n k) ≡ known p → (if t then none else quoteFrom ends′ prices′ 0 m k) ≡ known p
+    go true e = e
+    go false e = from-more ends prices ends′ prices′ 0 n m k p u (λ i v. same i (omega arith)) e
 
 -- ---- ends that rise
 
@@ -123,11 +123,11 @@ module _ (c : Curve) (keeps : curveKeeps c ≡ true) where
       go ih (yes w) = omega (arithℤ, ih w (omega arith), rising j v)
       go ih (no w) = let same : i ≡ suc j = omega arith in rw same (≤ℤ-refl (beginOf c (suc j)))
 
-  priced-when : (k p : ℤ) → quote c k ≡ known p → (c .start .0 ≤ℤ k) × (0 < c .n) × (k <ℤ endOf c (c .n - 1))
+  pub priced-when : (k p : ℤ) → quote c k ≡ known p → (c .start .0 ≤ℤ k) × (0 < c .n) × (k <ℤ endOf c (c .n - 1))
   unfolding quote
   priced-when k p = by-test (ltZ k (c .start .0))
       (λ t. (if t then none else quoteFrom (endOf c) (priceOf c) 0 (c .n) k) ≡ known p → (c .start .0 ≤ℤ k) × (0 < c .n) × (k <ℤ endOf c (c .n - 1)))
-      (λ t e. absurd (let z : _≡_ {A = ℕ} 0 1 = cc in omega arith))
+      (λ t e. impossible cc)
       (λ t e.
       let w = priced-ending (endOf c) (priceOf c) 0 (c .n) k p e in
       let u : w .at < c .n = let b = w .below in omega arith in
@@ -135,7 +135,7 @@ module _ (c : Curve) (keeps : curveKeeps c ≡ true) where
       let a = w .above in
       (omega arithℤ, omega arith, omega arithℤ))
 
-  when-priced : (k : ℤ) → (c .start .0 ≤ℤ k) × (0 < c .n) × (k <ℤ endOf c (c .n - 1)) → (p : ℤ) × (quote c k ≡ known p)
+  pub when-priced : (k : ℤ) → (c .start .0 ≤ℤ k) × (0 < c .n) × (k <ℤ endOf c (c .n - 1)) → (p : ℤ) × (quote c k ≡ known p)
   unfolding quote
   when-priced k w =
       let start : ltZ k (c .start .0) ≡ false = let u = w .0 in omega arithℤ in
@@ -144,12 +144,11 @@ module _ (c : Curve) (keeps : curveKeeps c ≡ true) where
       let x = ending-priced (endOf c) (priceOf c) 0 (c .n) k (record { at = c .n - 1; from = omega arith; below = omega arith; above = omega arithℤ }) in
       (x .0, rw start (x .1))
 
-  pub step-price : (j : ℕ) (k : ℤ) → j < c .n → beginOf c j ≤ℤ k → k <ℤ endOf c j → quote c k ≡ known (priceOf c j)
-  unfolding quote
-  step-price j k u low high =
-      let start : ltZ k (c .start .0) ≡ false = omega (arithℤ, begins-rise 0 j (omega arith) (omega arith)) in
-      let before : (m : ℕ) → m < j → ltZ k (endOf c m) ≡ false = λ m v. omega (arithℤ, begins-rise (suc m) j (omega arith) (omega arith)) in
-      rw start (first-ending (endOf c) (priceOf c) j 0 (c .n) k (omega arith) (omega arith) before (omega arithℤ))
-
-pub priced-iff : (c : Curve) → curveKeeps c ≡ true → (k : ℤ) → ((p : ℤ) × (quote c k ≡ known p)) ↔ ((c .start .0 ≤ℤ k) × (0 < c .n) × (k <ℤ endOf c (c .n - 1)))
-priced-iff c keeps k = (λ w. priced-when c keeps k (w .0) (w .1), when-priced c keeps k)
+  -- a kilowatt of step j: neither the curve's start nor the end of a step before j is above it, and the end of j is
+  pub in-step : (j : ℕ) (k : ℤ) → j < c .n → beginOf c j ≤ℤ k → k <ℤ endOf c j
+      → (ltZ k (c .start .0) ≡ false) × ((m : ℕ) → m < j → ltZ k (endOf c m) ≡ false) × (ltZ k (endOf c j) ≡ true)
+  in-step j k u low high = (
+    omega (arithℤ, begins-rise 0 j (omega arith) (omega arith)),
+    λ m v. omega (arithℤ, begins-rise (suc m) j (omega arith) (omega arith)),
+    omega arithℤ,
+  )

@@ -43,9 +43,12 @@ upperLimit D R E A =
     then (if leZ E R && leZ D E then minℤ R (maxℤ A E) else maxℤ R (minℤ A E))
     else (if isWithdraw D R then minℤ R (maxℤ A E) else pos 0)
 
--- the limit of the branch that is taken
+-- the branch that is taken, lower or upper, has its limit, LL or UL, and its curve
 abbrev pub limitOf : (D R E A : ℤ) → ℤ
 limitOf D R E A = if isLower D R then lowerLimit D R E A else upperLimit D R E A
+
+abbrev pub curveIn : (lower : Bool) → (da rt : Curve) → Curve
+curveIn lower da rt = if lower then da else rt
 
 abbrev pub lowerGrains : (D LL pen s : ℤ) → ℤ → ℤ
 lowerGrains D LL pen s cost = ((D -ℤ LL) *ℤ pen -ℤ cost) *ℤ s
@@ -53,12 +56,12 @@ lowerGrains D LL pen s cost = ((D -ℤ LL) *ℤ pen -ℤ cost) *ℤ s
 abbrev pub upperGrains : (D UL pen s : ℤ) → ℤ → ℤ
 upperGrains D UL pen s cost = minℤ (((D -ℤ UL) *ℤ pen +ℤ cost) *ℤ s) (pos 0)
 
--- none where a kilowatt to be priced has no price
-unfoldable pub energy : (da rt : Curve) → (D R E A pen s : ℤ) → Amount
-energy da rt D R E A pen s =
-    if isLower D R
-    then change (lowerGrains D (lowerLimit D R E A) pen s) (integral da (lowerLimit D R E A) D)
-    else change (upperGrains D (upperLimit D R E A) pen s) (integral rt D (upperLimit D R E A))
+-- by the branch and its limit; none where a kilowatt to be priced has no price
+unfoldable pub energy : (lower : Bool) → (da rt : Curve) → (D limit pen s : ℤ) → Amount
+energy lower da rt D limit pen s =
+    if lower
+    then change (lowerGrains D limit pen s) (integral da limit D)
+    else change (upperGrains D limit pen s) (integral rt D limit)
 
 -- ---- reserves, regulation and movement: d and r are the day-ahead and the real-time schedule
 
@@ -74,11 +77,23 @@ movement mv pmv bmv = movedGrains mv (maxℤ (pmv -ℤ bmv) (pos 0))
 
 -- ---- an interval: the schedules are the reduced ones, the bids those of line 1
 
+-- E
+abbrev pub pointOf : Interval → ℤ
+pointOf v = v .eop .0
+
+-- A
 abbrev pub cappedOf : Interval → ℤ
 cappedOf v = capped (v .en .0) (v .ae .0) (v .co .0)
 
+-- the branch that it takes, and that branch's limit
+abbrev pub lowerIn : DayAhead → Interval → Bool
+lowerIn a v = isLower (reduced a v 0) (v .en .0)
+
+abbrev pub limitIn : DayAhead → Interval → ℤ
+limitIn a v = limitOf (reduced a v 0) (v .en .0) (pointOf v) (cappedOf v)
+
 abbrev pub energyOf : Curve → Curve → DayAhead → Interval → Amount
-energyOf da rt a v = energy da rt (reduced a v 0) (v .en .0) (v .eop .0) (cappedOf v) (v .pen .0) (v .s .0)
+energyOf da rt a v = energy (lowerIn a v) da rt (reduced a v 0) (limitIn a v) (v .pen .0) (v .s .0)
 
 unfoldable pub otherThanEnergy : DayAhead → Interval → ℤ
 otherThanEnergy a v =

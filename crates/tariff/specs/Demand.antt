@@ -4,11 +4,8 @@ use mathlib.Core.Bool.{Bool, true, false, _&&_}
 use Prim.Native.Nat.{ℕ, zero, suc, _+_, _<_, _≤_}
 use lib.IntN.{ℤ}
 use lib.Signed.{_≤ℤ_, _<ℤ_}
-use Rattle.exact.specs.Choice.{if_then_else_}
 use Rattle.exact.specs.Whole.{minℤ, maxℤ}
 use Rattle.tariff.specs.declared.Curve.{Curve}
-use Rattle.tariff.specs.declared.DayAhead.{DayAhead}
-use Rattle.tariff.specs.declared.Interval.{Interval}
 use Rattle.tariff.specs.declared.Hour.{Hour}
 use Rattle.tariff.specs.declared.Expected.{Expected}
 use Rattle.tariff.specs.declared.Expected.the-variants.{Says}
@@ -17,20 +14,13 @@ use Rattle.tariff.specs.Curve.{Amount, known, none, quote}
 use Rattle.tariff.specs.Reply.{clear}
 use Rattle.tariff.specs.Eligible.{lags}
 use Rattle.tariff.specs.Derate.{exceedsRoom, reduced}
-use Rattle.tariff.specs.Contributions.{isLower, limitOf, cappedOf}
+use Rattle.tariff.specs.Contributions.{curveIn, lowerIn, limitIn}
 use Rattle.tariff.specs.Hour.{interval, form, range, order, curves, secondsSum, intervals}
 
 -- kilowatt k lies between a and b, whichever is the greater
 pub record Between (a b k : ℤ) : Type 0 where
   pub low : minℤ a b ≤ℤ k
   pub high : k <ℤ maxℤ a b
-
--- the branch that an interval takes has its limit, LL or UL, and its curve
-abbrev pub limitIn : DayAhead → Interval → ℤ
-limitIn a v = limitOf (reduced a v 0) (v .en .0) (v .eop .0) (cappedOf v)
-
-abbrev pub curveIn : Hour → Interval → Curve
-curveIn h v = if isLower (reduced (h .ahead) v 0) (v .en .0) then h .da else h .rt
 
 -- interval i is eligible, no DERATE refuses it, and kilowatt k lies between D and the limit
 pub record MustPrice (h : Hour) (isExcluded : Bool) (i : ℕ) (k : ℤ) : Type 0 where
@@ -42,7 +32,7 @@ pub record MustPrice (h : Hour) (isExcluded : Bool) (i : ℕ) (k : ℤ) : Type 0
 
 -- the price of kilowatt k on the curve that interval i is settled by
 abbrev pub priceIn : Hour → ℕ → ℤ → Amount
-priceIn h i k = quote (curveIn h (interval h i)) k
+priceIn h i k = quote (curveIn (lowerIn (h .ahead) (interval h i)) (h .da) (h .rt)) k
 
 -- a kilowatt that interval i must price has no price
 pub record Unpriced (h : Hour) (isExcluded : Bool) (i : ℕ) : Type 0 where
@@ -121,20 +111,21 @@ pub record SaysAnotherHour (h : Hour) (expected : Expected) : Type 0 where
 
 -- ---- checks that find no fault
 
--- none from 1 to 4; and none from 1 to 5
-pub record NoFaultTo4 (h : Hour) (expected : Expected) : Type 0 where
+-- form, ranges, order and curves are as they must be
+pub record Lawful (h : Hour) (expected : Expected) : Type 0 where
   pub form : form h ≡ clear
   pub range : range h ≡ clear
   pub order : order h expected ≡ clear
   pub curves : curves h ≡ clear
 
-pub record NoFaultTo5 (h : Hour) (expected : Expected) : Type 0 where
-  pub to4 : NoFaultTo4 h expected
+-- and the seconds make a whole hour: no check over the block refuses
+pub record WholeHour (h : Hour) (expected : Expected) : Type 0 where
+  pub lawful : Lawful h expected
   pub seconds : secondsSum h ≡ clear
 
--- no check refuses: none from 1 to 5, neither 6 nor 7 in any interval, and the lent row has an entry for each interval
+-- no check refuses: none over the block, none in any interval, and the lent row has an entry for each interval
 pub record Passes (h : Hour) (isExcluded : Bool) (expected : Expected) (room : ℕ) : Type 0 where
-  pub to5 : NoFaultTo5 h expected
+  pub whole : WholeHour h expected
   pub intervals : intervals h isExcluded ≡ clear
   pub fits : h .n ≤ room
 

@@ -1,9 +1,9 @@
 -- "Curtailed imports (25.6)": the ranges of an import's numbers, the checks of a block, what its intervals give, and the day.
-use mathlib.Core.Bool.{Bool, true, false, _&&_}
-use Prim.Native.Nat.{ℕ, zero, suc, _+_}
+use mathlib.Core.Bool.{Bool, not, _&&_}
+use Prim.Native.Nat.{ℕ, _+_}
 use lib.Dec.{leb}
 use lib.ListN.{getD}
-use lib.IntN.{ℤ, pos, _+ℤ_, _-ℤ_, _*ℤ_}
+use lib.IntN.{ℤ, pos, _-ℤ_, _*ℤ_}
 use lib.Signed.{leZ}
 use Rattle.exact.specs.Choice.{if_then_else_}
 use Rattle.exact.specs.Whole.{maxℤ, eqZ, sumTo}
@@ -12,21 +12,14 @@ use Rattle.tariff.specs.declared.ImportHour.{ImportHour}
 use Rattle.tariff.specs.declared.Worth.{Worth}
 use Rattle.tariff.specs.declared.Worth.the-variants as worth
 use Rattle.tariff.specs.declared.ImportFault.{ImportFault}
-use Rattle.tariff.specs.declared.ImportFault.the-variants as spot
+use Rattle.tariff.specs.declared.ImportFault.the-variants as found
 use Rattle.tariff.specs.declared.ImportAnswer.{ImportAnswer}
 use Rattle.tariff.specs.declared.ImportAnswer.the-variants as answer
 use Rattle.tariff.specs.Units.{kw, price, seconds, centsOf}
-use Rattle.tariff.specs.Sheet.{liesIn, isSeconds, isHour, isCapacity, isPrice}
-use Rattle.tariff.specs.Reply.{FORM, RANGE, ORDER, SECONDS, Verdict, clear, fault, unless, _then_, firstOf, numberOf, placeOf}
+use Rattle.tariff.specs.Sheet.{isMark, isSeconds, isHour, isCapacity, isPrice}
+use Rattle.tariff.specs.Reply.{FORM, RANGE, ORDER, SECONDS, Finding, Verdict, clear, fault, unless, _then_, firstOf, numberOf, placeOf}
 
--- ---- ranges: power as capacities, all prices alike, and marks 0 or 1
-
-abbrev pub isMark : ℤ → Bool
-isMark = liesIn (pos 0) (pos 1)
-
--- `unit` of a day, and `import`
-abbrev pub isName : ℤ → Bool
-isName = liesIn (pos 1) (pos 9999999)
+-- ---- ranges: power as capacities, all prices alike
 
 unfoldable pub curtailedInRange : Curtailed → Bool
 curtailedInRange v =
@@ -81,58 +74,54 @@ importSum cts h = sumTo (λ i. importGrains cts h (curtailed h i)) (h .n)
 
 -- ---- a block's part of the day: its sum, or 0 where that is below 0
 
-pub data Part : Type 0 where
-  part : (grains : ℤ) → Part
-  stopped : (number place : ℕ) → Part
+unfoldable pub importPart : (cts : ℤ) → ImportHour → ℤ
+importPart cts h = maxℤ (importSum cts h) (pos 0)
 
-abbrev pub partUnder : Verdict → ℤ → Part
-partUnder clear sum = part (maxℤ sum (pos 0))
-partUnder (fault number place) sum = stopped number place
+-- ---- the day. A fault of it stands at a spot: outside the blocks, or in the block of an hour
 
-unfoldable pub importPart : (cts : ℤ) → ImportHour → ℕ → Part
-importPart cts h k = partUnder (importFault h k) (importSum cts h)
+pub data Spot : Type 0 where
+  outside : (place : ℕ) → Spot
+  inHour : (hour place : ℕ) → Spot
 
--- ---- the day: the first refused block refuses it, with its hour
+-- a verdict on some lines, where their places are such spots
+abbrev pub putIn : (ℕ → Spot) → Verdict → Finding Spot
+putIn spot clear = clear
+putIn spot (fault number place) = fault number (spot place)
 
-pub data Parts : Type 0 where
-  sum : (grains : ℤ) → Parts
-  stoppedIn : (hour number place : ℕ) → Parts
+-- the first two lines, each block, and whether bytes follow the last
+unfoldable pub importDayFault : (head : Verdict) → (block : ℕ → Verdict) → (hours : ℕ) → (surplus : Bool) → Finding Spot
+importDayFault head block hours surplus =
+    putIn outside head then firstOf (λ k. putIn (inHour k) (block k)) hours then unless (not surplus) ORDER (outside 0)
 
-abbrev pub add : Parts → ℕ → Part → Parts
-add (sum before) k (part grains) = sum (before +ℤ grains)
-add (sum before) k (stopped number place) = stoppedIn k number place
-add (stoppedIn hour number place) k p = stoppedIn hour number place
-
-unfoldable pub partsTo : (ℕ → Part) → ℕ → Parts
-partsTo parts zero = sum (pos 0)
-partsTo parts (suc k) = add (partsTo parts k) k (parts k)
-
--- ---- the reply: paid with the import's number, grains and cents, or refused with number, hour or none, and place
-
-pub data Where : Type 0 where
-  outside : Where
-  inHour : ℕ → Where
+-- ---- the reply: paid with the import's number, grains and cents, or refused with number and spot
 
 pub data ImportReply : Type 0 where
   paid : (name grains cents : ℤ) → ImportReply
-  refused : (number : ℕ) → Where → (place : ℕ) → ImportReply
+  refused : (number : ℕ) → (spot : Spot) → ImportReply
 
--- the grains of all hours become cents once
-abbrev pub settled : (name : ℤ) → (surplus : Bool) → Parts → ImportReply
-settled name surplus (stoppedIn hour number place) = refused number (inHour hour) place
-settled name true (sum grains) = refused ORDER outside 0
-settled name false (sum grains) = paid name grains (centsOf grains)
+abbrev pub otherwise : Finding Spot → ImportReply → ImportReply
+otherwise clear reply = reply
+otherwise (fault number spot) reply = refused number spot
+
+-- the parts of all hours become cents once
+unfoldable pub importReplyBy : (name : ℤ) → Finding Spot → (part : ℕ → ℤ) → (hours : ℕ) → ImportReply
+importReplyBy name day part hours = otherwise day (paid name (sumTo part hours) (centsOf (sumTo part hours)))
 
 -- ---- what the code gives back, in these words
 
-abbrev pub worthTold : Worth → Part
-worthTold (worth.Part grains) = part (grains .0)
-worthTold (worth.Refused check) = stopped (numberOf check) (placeOf check)
+-- of a block its verdict, and its part where that is clear
+abbrev pub worthBy : Verdict → (part : ℤ) → Verdict × ℤ
+worthBy clear part = (clear, part)
+worthBy (fault number place) part = (fault number place, pos 0)
+
+abbrev pub worthTold : Worth → Verdict × ℤ
+worthTold (worth.Part grains) = (clear, grains .0)
+worthTold (worth.Refused check) = (fault (numberOf check) (placeOf check), pos 0)
 
 abbrev pub importFaultTold : ImportFault → ImportReply
-importFaultTold (spot.Head check) = refused (numberOf check) outside (placeOf check)
-importFaultTold (spot.Block hour check) = refused (numberOf check) (inHour hour) (placeOf check)
-importFaultTold spot.Surplus = refused ORDER outside 0
+importFaultTold (found.Head check) = refused (numberOf check) (outside (placeOf check))
+importFaultTold (found.Block hour check) = refused (numberOf check) (inHour hour (placeOf check))
+importFaultTold found.Surplus = refused ORDER (outside 0)
 
 abbrev pub importTold : ImportAnswer → ImportReply
 importTold (answer.Paid name grains cents) = paid name (grains .0) (cents .0)

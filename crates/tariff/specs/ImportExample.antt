@@ -9,7 +9,7 @@ use Rattle.exact.specs.Whole.{maxℤ, sumTo}
 use Rattle.tariff.specs.declared.Curtailed.{Curtailed}
 use Rattle.tariff.specs.declared.ImportHour.{ImportHour}
 use Rattle.tariff.specs.Units.{kw, price, seconds, centsOf}
-use Rattle.tariff.specs.Reply.{firstOf}
+use Rattle.tariff.specs.Reply.{ORDER, clear, firstOf}
 use Rattle.tariff.specs.Import.{
   curtailedInRange,
   blankCurtailed,
@@ -20,12 +20,14 @@ use Rattle.tariff.specs.Import.{
   counts,
   importGrains,
   importSum,
-  part,
   importPart,
-  stoppedIn,
-  partsTo,
+  inHour,
+  importFault,
+  importDayFault,
+  ImportReply,
   paid,
-  settled,
+  refused,
+  importReplyBy,
 }
 
 -- ---- the parts of an hour
@@ -69,13 +71,13 @@ unfolding importGrains counts maxℤ
 early-gives = (refl, refl, refl, refl)
 
 -- 81,000,000,000 + 0 + 0 - 36,000,000,000
-pub early-part : importPart (pos 0) early 0 ≡ part (pos 45000000000)
-unfolding importPart importForm importRange curtailedInRange firstOf importOrder importSeconds importSum importGrains counts maxℤ sumTo
+pub early-part : importPart (pos 0) early ≡ pos 45000000000
+unfolding importPart importSum importGrains counts maxℤ sumTo
 early-part = refl
 
 -- the same hour of a CTS import
-pub cts-part : importPart (pos 1) early 0 ≡ part (pos 0)
-unfolding importPart importForm importRange curtailedInRange firstOf importOrder importSeconds importSum importGrains counts maxℤ sumTo
+pub cts-part : importPart (pos 1) early ≡ pos 0
+unfolding importPart importSum importGrains counts maxℤ sumTo
 cts-part = refl
 
 -- ---- an hour whose bid of 2000 is above the price of 1000; three of its lines were not cut
@@ -94,19 +96,24 @@ pub late-sum : importSum (pos 0) late ≡ negℤ (pos 27000000000)
 unfolding importSum importGrains counts maxℤ sumTo
 late-sum = refl
 
-pub late-part : importPart (pos 0) late 1 ≡ part (pos 0)
-unfolding importPart importForm importRange curtailedInRange firstOf importOrder importSeconds importSum importGrains counts maxℤ sumTo
+pub late-part : importPart (pos 0) late ≡ pos 0
+unfolding importPart importSum importGrains counts maxℤ sumTo
 late-part = refl
 
 -- ---- the two as a day, and import 17 paid by it: 45,000,000,000 / 3,600,000 = 12,500 cents, which the loss leaves alone
+
+-- the reply to two hours behind first lines without a fault, and with nothing behind them
+pub replyOf : (ℕ → ImportHour) → ImportReply
+unfolding importReplyBy importDayFault importForm importRange curtailedInRange firstOf importOrder importSeconds importPart importSum importGrains counts maxℤ sumTo centsOf
+replyOf hour = importReplyBy (pos 17) (importDayFault clear (λ k. importFault (hour k) k) 2 false) (λ k. importPart (pos 0) (hour k)) 2
 
 abbrev twoHours : (first second : ImportHour) → ℕ → ImportHour
 twoHours first second zero = first
 twoHours first second (suc k) = second
 
-pub day-paid : settled (pos 17) false (partsTo (λ k. importPart (pos 0) (twoHours early late k) k) 2) ≡ paid (pos 17) (pos 45000000000) (pos 12500)
-unfolding partsTo centsOf
-day-paid = rw (early-part, late-part)
+pub day-paid : replyOf (twoHours early late) ≡ paid (pos 17) (pos 45000000000) (pos 12500)
+unfolding replyOf
+day-paid = refl
 
 -- ---- half a cent in each of two hours: (2 - 0) × (50000 - 49000) × 900 = 1,800,000 grains. Alone each pays 0, together 1
 
@@ -120,11 +127,11 @@ pub half-alone : centsOf (pos 1800000) ≡ pos 0
 unfolding centsOf
 half-alone = refl
 
-pub halves-paid : settled (pos 17) false (partsTo (λ k. importPart (pos 0) (halfHour (pos k)) k) 2) ≡ paid (pos 17) (pos 3600000) (pos 1)
-unfolding partsTo importPart importForm importRange curtailedInRange firstOf importOrder importSeconds importSum importGrains counts maxℤ sumTo centsOf
+pub halves-paid : replyOf (λ k. halfHour (pos k)) ≡ paid (pos 17) (pos 3600000) (pos 1)
+unfolding replyOf
 halves-paid = refl
 
 -- ---- the late hour first: it says hour 1 at place 0, which is ORDER, and the day is refused there
-pub wrong-order : partsTo (λ k. importPart (pos 0) (twoHours late early k) k) 2 ≡ stoppedIn 0 3 1
-unfolding partsTo importPart importForm importRange curtailedInRange firstOf importOrder importSeconds importSum importGrains counts maxℤ sumTo
+pub wrong-order : replyOf (twoHours late early) ≡ refused ORDER (inHour 0 1)
+unfolding replyOf
 wrong-order = refl

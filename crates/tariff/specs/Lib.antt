@@ -3,6 +3,7 @@ pub mod Units
 pub mod Sheet
 pub mod Curve
 pub mod Reply
+pub mod Outcome
 pub mod Eligible
 pub mod Derate
 pub mod Contributions

@@ -64,23 +64,26 @@ abbrev pub told : Answer → Reply
 told (Paid sum cents) = paid (sum .0) (cents .0)
 told (Refused check) = refused (numberOf check) (placeOf check)
 
--- what a check finds: nothing, or a fault
-pub data Verdict : Type 0 where
-  clear : Verdict
-  fault : (number place : ℕ) → Verdict
+-- what a check finds: nothing, or a fault at a place. An hour's places are lines and intervals
+pub data Finding (Place : Type 0) : Type 0 where
+  clear : Finding Place
+  fault : (number : ℕ) → (place : Place) → Finding Place
+
+abbrev pub Verdict : Type 0
+Verdict = Finding ℕ
 
 abbrev pub shown : Found → Verdict
 shown Nothing = clear
 shown (Fault check) = fault (numberOf check) (placeOf check)
 
 -- a fault where a rule is broken
-abbrev pub unless : Bool → ℕ → ℕ → Verdict
+abbrev pub unless : {Place : Type 0} → Bool → ℕ → Place → Finding Place
 unless true number place = clear
 unless false number place = fault number place
 
 -- checks in their order: the first fault stands
 infixr 2 _then_
-abbrev pub _then_ : Verdict → Verdict → Verdict
+abbrev pub _then_ : {Place : Type 0} → Finding Place → Finding Place → Finding Place
 clear then w = w
 (fault number place) then w = fault number place
 
@@ -89,6 +92,6 @@ otherwise clear reply = reply
 otherwise (fault number place) reply = refused number place
 
 -- the same check at 0, 1, .. below n: the first fault stands
-unfoldable pub firstOf : (ℕ → Verdict) → ℕ → Verdict
+unfoldable pub firstOf : {Place : Type 0} → (ℕ → Finding Place) → ℕ → Finding Place
 firstOf check zero = clear
 firstOf check (suc n) = firstOf check n then check n

@@ -41,6 +41,14 @@ isBid = liesIn (pos 0) (pos 1000000)
 abbrev pub isPrice : ℤ → Bool
 isPrice = liesIn (negℤ (pos 1000000)) (pos 1000000)
 
+-- a mark, as `rtc`, `cts` and `cut` are
+abbrev pub isMark : ℤ → Bool
+isMark = liesIn (pos 0) (pos 1)
+
+-- `unit` of a day, and `import`
+abbrev pub isName : ℤ → Bool
+isName = liesIn (pos 1) (pos 9999999)
+
 -- ---- the steps of a curve
 
 abbrev pub endOf : Curve → ℕ → ℤ

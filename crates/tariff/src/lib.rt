@@ -147,8 +147,8 @@ pub enum Answer {
     Refused(Check),
 }
 
-// The answer of a block place of a day: a struct, since an array of enums cannot be a field.
-pub struct Place {
+// The answer of an hour of a day: a struct, since an array of enums cannot be a field.
+pub struct HourAnswer {
     pub answer: Answer,
 }
 

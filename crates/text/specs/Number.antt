@@ -8,11 +8,14 @@ use Rattle.text.specs.declared.digits.Digits.{Digits}
 use Rattle.text.specs.declared.digits.Digits.the-variants.{Natural, NoDigits}
 use Rattle.text.specs.declared.Number.{Number}
 use Rattle.text.specs.declared.Number.the-variants.{Got, Bad}
-use Rattle.text.specs.Text.{byteAt}
+use Rattle.text.specs.Text.{ZERO, NINE, MINUS, byteAt}
 
--- what the byte at a place says as a digit, or 10 where it is none
+-- what a byte says as a digit, or that it is none
+abbrev pub NO-DIGIT : ℕ
+NO-DIGIT = 10
+
 abbrev pub digitOf : ℕ → ℕ
-digitOf b = if ltb b 48 then 10 else (if ltb 57 b then 10 else b - 48)
+digitOf b = if ltb b ZERO then NO-DIGIT else (if ltb NINE b then NO-DIGIT else b - ZERO)
 
 unfoldable pub digitAt : List ℕ → ℕ → ℕ
 digitAt s at = digitOf (byteAt s at)
@@ -22,12 +25,12 @@ unfoldable pub moreDigits : (left v : ℕ) → List ℕ → ℕ → Digits
 moreDigits zero v s at = Natural v at
 moreDigits (suc left) v s at =
     let rest = moreDigits left (v * 10 + digitAt s at) s (at + 1) in
-    if eqb (digitAt s at) 10 then Natural v at else rest
+    if eqb (digitAt s at) NO-DIGIT then Natural v at else rest
 
 -- a zero alone, or a digit from 1 to 9 and up to six more. What follows is the next reader's
 unfoldable pub naturalAt : List ℕ → ℕ → Digits
 naturalAt s at =
-    if eqb (digitAt s at) 10
+    if eqb (digitAt s at) NO-DIGIT
     then NoDigits
     else (if eqb (digitAt s at) 0 then Natural 0 (at + 1) else moreDigits 6 (digitAt s at) s (at + 1))
 
@@ -41,7 +44,7 @@ negative (Natural v next) = if eqb v 0 then Bad else Got (negℤ (pos v)) next
 negative NoDigits = Bad
 
 unfoldable pub numberAt : List ℕ → ℕ → Number
-numberAt s at = if eqb (byteAt s at) 45 then negative (naturalAt s (at + 1)) else plain (naturalAt s at)
+numberAt s at = if eqb (byteAt s at) MINUS then negative (naturalAt s (at + 1)) else plain (naturalAt s at)
 
 -- at most seven digits
 abbrev pub Small : Digits → Type 0

@@ -82,9 +82,9 @@ fn hour_14(da_end: i64) -> Hour {
 fn print_hour(h: Hour) {
     let mut grains = [0i64; 4];
     let answer = engine::settle(h, false, Expected::Any, &mut grains);
-    let mut row = [0u8; 2048];
-    let m = printed::answer_text(h.hour, &grains, 4, answer, &mut row);
-    io::write_all(STDOUT_FILENO, &row[..m]);
+    let mut page = [0u8; printed::LONGEST];
+    let m = printed::answer_text(h.hour, &grains, 4, answer, &mut page);
+    io::write_all(STDOUT_FILENO, &page[..m]);
 }
 
 fn main() {

@@ -14,18 +14,22 @@ use Rattle.answers.proofs.put_answer.Tie as tie
 
 returns : tie.Need-returns
 returns c =
-    let a = c .before .before .before .before .before .before .before .before .args in
-    put-as (ap (λ (x : Answer). answerText (a .hour) (take (a .n) (a .grains .now)) (told x)) (sym (c .before .before .before .before .before .answer .given .1))) (c .before .before .put-refusal .ensures)
+    let at-answer = c .before .before .before .before .before in
+    let start = at-answer .before .before .before in
+    let a = start .args in
+    put-as (ap (λ (x : Answer). answerText (a .hour) (take (a .n) (a .grains .now)) (told x)) (sym (at-answer .answer .given .1))) (c .before .before .put-refusal .ensures)
 
 returns-2 : tie.Need-returns-2
 returns-2 c =
-    let s = c .before .before .before .before .before .before .before .before .before .before .before .before .before in
+    let at-put-intervals = c .before .before .before .before .before .before .before in
+    let at-answer2 = at-put-intervals .before .before .before in
+    let s = at-answer2 .before .before .before in
     let a = s .args in
-    let m = c .before .before .before .before .before .before .before .before .before .before .answer2 .given in
+    let m = at-answer2 .answer2 .given in
     put-as
     (ap (λ (x : Answer). answerText (a .hour) (take (a .n) (a .grains .now)) (told x)) (sym (m .1)))
     (put-then
-    (c .before .before .before .before .before .before .before .put-intervals .ensures)
+    (at-put-intervals .put-intervals .ensures)
     (put-as (ap (λ (h : ℤ). payLine (bytes "hour=") h (m .0 .1 .0 .0)) (handed (a .hour) (s .fits .hour .sfits))) (c .before .before .put-pay .ensures)))
 
 pub put-answer-spec : {M : Type 1} → statement M

@@ -11,26 +11,26 @@ use Rattle.answers.proofs.put_day.Tie as tie
 
 refusal : tie.Need-returns
 refusal c =
-    let a = c .before .before .before .before .before .before .before .before .args in
-    put-as (ap (λ (f : Found). dayLines (shown f) (toldAll (a .hours)) (toldTotal (a .total))) (sym (c .before .before .before .before .before .header .given .1))) (c .before .before .put-refusal .ensures)
+    let at-header = c .before .before .before .before .before in
+    let start = at-header .before .before .before in
+    let a = start .args in
+    put-as (ap (λ (f : Found). dayLines (shown f) (toldAll (a .hours)) (toldTotal (a .total))) (sym (at-header .header .given .1))) (c .before .before .put-refusal .ensures)
 
 lines : tie.Need-returns-2
 lines c =
-    let a = c .before .before .before .before .before .before .before .before .before .before .before .args in
+    let at-put-hours = c .before .before .before .before .before .before in
+    let at-enum-told = at-put-hours .before .before in
+    let start = at-enum-told .before .before .before in
+    let a = start .args in
     put-as
-    (ap (λ (f : Found). dayLines (shown f) (toldAll (a .hours)) (toldTotal (a .total))) (sym (c .before .before .before .before .before .before .before .before .enum-told .given .1)))
-    (put-then (c .before .before .before .before .before .before .put-hours .ensures) (c .before .before .put-total .ensures))
+    (ap (λ (f : Found). dayLines (shown f) (toldAll (a .hours)) (toldTotal (a .total))) (sym (at-enum-told .enum-told .given .1)))
+    (put-then (at-put-hours .put-hours .ensures) (c .before .before .put-total .ensures))
 
 pub put-day-spec : {M : Type 1} → statement M
 put-day-spec =
     tie.close
     (tie.spec
-    (λ c. search needs)
-    (λ c κs. search needs)
-    (λ c. search needs)
-    (λ c κs. search needs)
-    (λ c κs. search needs)
-    (λ c. search needs)
+    (λ c. search needs) (λ c κs. search needs) (λ c. search needs) (λ c κs. search needs) (λ c κs. search needs) (λ c. search needs)
     refusal
     (λ c. search needs)
     lines)

@@ -6,7 +6,7 @@ use borrow.Author.Needs.{needs}
 use lib.ListN.{length, take}
 use lib.Seq.{take-all}
 use Rattle.tariff.specs.Total.{toldAll}
-use Rattle.tariff.proofs.Places.{told-length, told-at}
+use Rattle.tariff.proofs.HourAnswers.{told-length, told-at}
 use Rattle.page.specs.Page.{Put}
 use Rattle.answers.specs.Answers.{numbered, hourLine}
 use Rattle.page.proofs.Pages.{put-none, put-then, put-as, put-length}
@@ -15,19 +15,20 @@ use Rattle.answers.proofs.put_hours.Statement.{statement}
 use Rattle.answers.proofs.put_hours.Tie as tie
 
 abbrev Inv-loop : tie.InvT-loop
-Inv-loop row₀ at hours next₀ k₀ row next k = Put row₀ at (numbered hourLine 0 (take k (toldAll hours))) row next
+Inv-loop page₀ at hours next₀ k₀ page next k = Put page₀ at (numbered hourLine 0 (take k (toldAll hours))) page next
 
 abbrev μ-loop : tie.MeasureT-loop
-μ-loop row₀ at hours next₀ k₀ row next k = 24 - k
+μ-loop page₀ at hours next₀ k₀ page next k = 24 - k
 
 loop-holds : tie.Need-loop-holds Inv-loop μ-loop
 unfolding numbered
-loop-holds c = put-none (c .before .args .row .now) (c .before .args .at)
+loop-holds c = put-none (c .before .args .page .now) (c .before .args .at)
 
 loop-again : tie.Need-loop-again Inv-loop μ-loop
 loop-again c =
-    let s = c .before .before .before .before .before .before .before .before in
-    let l = c .before .before .before .before .before .before .loop in
+    let at-loop = c .before .before .before .before .before .before in
+    let s = at-loop .before .before in
+    let l = at-loop .loop in
     let long : length (s .args .t3) ≡ 24 = s .good .1 .1 .0 .1 .0 .1 in
     let all = told-length (s .args .t3) 24 long in
     put-as

@@ -10,11 +10,13 @@ use Rattle.answers.proofs.put_interval.Tie as tie
 
 returns : tie.Need-returns
 returns c =
-    let s = c .before .before .before .before .before .before .before .before .before .before .before .before .before .before .before .before in
+    let at-put-signed = c .before .before .before .before .before .before .before in
+    let at-put-count = at-put-signed .before .before .before .before .before in
+    let s = at-put-count .before .before .before .before in
     put-then
     (put-then
-    (c .before .before .before .before .before .before .before .before .before .before .before .before .put-count .ensures)
-    (put-as (ap (valued (bytes " grains=")) (handed (s .args .grains) (s .fits .grains .sfits))) (c .before .before .before .before .before .before .before .put-signed .ensures)))
+    (at-put-count .put-count .ensures)
+    (put-as (ap (valued (bytes " grains=")) (handed (s .args .grains) (s .fits .grains .sfits))) (at-put-signed .put-signed .ensures)))
     (c .before .before .put .ensures)
 
 pub put-interval-spec : {M : Type 1} → statement M

@@ -15,14 +15,14 @@ use Rattle.answers.proofs.put_intervals.Statement.{statement}
 use Rattle.answers.proofs.put_intervals.Tie as tie
 
 abbrev Inv-loop : tie.InvT-loop
-Inv-loop row₀ at grains n next₀ i₀ row next i = Put row₀ at (numbered intervalLine 1 (take i grains)) row next × (i ≤ n)
+Inv-loop page₀ at grains n next₀ i₀ page next i = Put page₀ at (numbered intervalLine 1 (take i grains)) page next × (i ≤ n)
 
 abbrev μ-loop : tie.MeasureT-loop
-μ-loop row₀ at grains n next₀ i₀ row next i = length grains - i
+μ-loop page₀ at grains n next₀ i₀ page next i = length grains - i
 
 loop-holds : tie.Need-loop-holds Inv-loop μ-loop
 unfolding numbered
-loop-holds c = (put-none (c .before .args .row .now) (c .before .args .at), omega arith)
+loop-holds c = (put-none (c .before .args .page .now) (c .before .args .at), omega arith)
 
 same-length : tie.Need-same-length Inv-loop μ-loop
 same-length c = put-length (c .before .before .loop .inv .0)
@@ -36,14 +36,17 @@ returns c =
 
 loop-again : tie.Need-loop-again Inv-loop μ-loop
 loop-again c =
-    let l = c .before .before .before .before .before .before .before .loop in
-    let g = c .before .before .before .before .before .before .before .before .before .args .grains .now in
+    let at-put-interval-arg2 = c .before .before .before in
+    let at-loop = at-put-interval-arg2 .before .before .before .before in
+    let start = at-loop .before .before in
+    let l = at-loop .loop in
+    let g = start .args .grains .now in
     let x = getD g (l .i) (pos 0) in (
       put-as
           (numbered-next intervalLine 1 (l .i) (l .i + 1) g (pos 0) (omega arith) (omega arith))
           (put-then
           (l .inv .0)
-          (put-as (ap (intervalLine (l .i + 1)) (handed x (c .before .before .before .put-interval-arg2 .given))) (c .before .before .put-interval .ensures))),
+          (put-as (ap (intervalLine (l .i + 1)) (handed x (at-put-interval-arg2 .put-interval-arg2 .given))) (c .before .before .put-interval .ensures))),
       omega arith,
     )
 

@@ -10,11 +10,14 @@ use Rattle.answers.proofs.put_pay.Tie as tie
 
 returns : tie.Need-returns
 returns c =
-    let s = c .before .before .before .before .before .before .before .before .before .before .before .before .before .before .before .before .before in
+    let at-put-signed2 = c .before .before .before .before .before .before .before in
+    let at-struct-told = at-put-signed2 .before in
+    let at-put-signed = at-struct-told .before .before .before .before .before in
+    let s = at-put-signed .before .before .before .before in
     put-then
     (put-then
-    (put-as (ap (valued (s .args .key .now)) (handed (s .args .name) (s .fits .name .sfits))) (c .before .before .before .before .before .before .before .before .before .before .before .before .before .put-signed .ensures))
-    (put-as (ap (valued (bytes " pay=")) (handed (s .args .cents .0) (c .before .before .before .before .before .before .before .before .struct-told .given .0 .1))) (c .before .before .before .before .before .before .before .put-signed2 .ensures)))
+    (put-as (ap (valued (s .args .key .now)) (handed (s .args .name) (s .fits .name .sfits))) (at-put-signed .put-signed .ensures))
+    (put-as (ap (valued (bytes " pay=")) (handed (s .args .cents .0) (at-struct-told .struct-told .given .0 .1))) (at-put-signed2 .put-signed2 .ensures)))
     (c .before .before .put .ensures)
 
 pub put-pay-spec : {M : Type 1} → statement M

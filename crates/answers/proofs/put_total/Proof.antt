@@ -13,16 +13,20 @@ use Rattle.answers.proofs.put_total.Tie as tie
 
 returns : tie.Need-returns
 returns c =
-    let m = c .before .before .before .before .before .before .before .before .before .before .before .before .total .given in
+    let at-put-signed = c .before .before .before .before .before .before .before in
+    let at-struct-told = at-put-signed .before in
+    let at-total = at-struct-told .before .before .before .before in
+    let m = at-total .total .given in
     put-as
     (ap (λ (t : Total). totalLine (toldTotal t)) (sym (m .1)))
     (put-then
-    (put-as (ap (valued (bytes "total=")) (handed (m .0 .0 .0) (c .before .before .before .before .before .before .before .before .struct-told .given .0 .1))) (c .before .before .before .before .before .before .before .put-signed .ensures))
+    (put-as (ap (valued (bytes "total=")) (handed (m .0 .0 .0) (at-struct-told .struct-told .given .0 .1))) (at-put-signed .put-signed .ensures))
     (c .before .before .put .ensures))
 
 returns-2 : tie.Need-returns-2
 returns-2 c =
-    put-as (ap (λ (t : Total). totalLine (toldTotal t)) (sym (c .before .before .before .before .before .enum-told .given .1))) (c .before .before .put2 .ensures)
+    let at-enum-told = c .before .before .before .before .before in
+    put-as (ap (λ (t : Total). totalLine (toldTotal t)) (sym (at-enum-told .enum-told .given .1))) (c .before .before .put2 .ensures)
 
 pub put-total-spec : {M : Type 1} → statement M
 put-total-spec =

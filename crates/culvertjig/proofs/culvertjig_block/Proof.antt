@@ -21,14 +21,16 @@ reply c b e =
 
 returns : tie.Need-returns
 returns c =
-    let k = c .before .before .before .before .before .before in
-    let r = reply k _ (c .before .before .before .answer .given .1) in
+    let at-answer = c .before .before .before in
+    let k = at-answer .before .before .before in
+    let r = reply k _ (at-answer .answer .given .1) in
     (rw r, (rw r, (rw r (handed _ (c .before .struct-told .given .0 .1)), (rw r (handed _ (c .struct-told2 .given .0 .1)), rw (hour (k .before .before)) at (k .settle-block .ensures .1)))))
 
 returns-2 : tie.Need-returns-2
 returns-2 c =
-    let k = c .before .before .before .before .before .before in
-    let r = reply k _ (c .before .before .before .answer2 .given .1) in
+    let at-answer2 = c .before .before .before in
+    let k = at-answer2 .before .before .before in
+    let r = reply k _ (at-answer2 .answer2 .given .1) in
     (rw r (c .number-of .ensures), (rw r (c .before .place-of .ensures), (rw r, (rw r, rw (hour (k .before .before)) at (k .settle-block .ensures .1)))))
 
 pub culvertjig-block-spec : {M : Type 1} → statement M

@@ -4,7 +4,7 @@ use native.Mathlib.Omega.{arith}
 use borrow.Author.Needs.{needs}
 use Rattle.exact.proofs.Calls.{passes, fails}
 use Rattle.tariff.specs.Derate.{ofFive}
-use Rattle.derate.specs.Five.{cutAt, Small}
+use Rattle.derate.specs.Five.{cutAt, SmallFive}
 use Rattle.derate.proofs.Fives.{shares-small}
 use Rattle.derate.proofs.Derates.{InRange, in-range, sum-within-range, pots-small, derated-none, derated-out, derated-over, derated-to}
 use Rattle.derate.proofs.derate_of.Statement.{statement}
@@ -38,7 +38,7 @@ module _ (c : tie.Else1) where
   near : InRange (ahead .ahead-five .result) (live .live-five .result) (given .uol .given .0 .0 .0)
   near = in-range (passes (c .before .in-range .ensures) (c .if1 .left))
 
-small : (c : tie.After-potentials) → Small (c .potentials .result)
+small : (c : tie.After-potentials) → SmallFive (c .potentials .result)
 small c = let n = near (c .before) in pots-small (n .ahead) (n .live) (c .potentials .ensures)
 
 fits : (c : tie.Else2) → c .before .before .before .before .cut-from .result .0 ≤ ofFive (cutAt (c .before .before .before .before .before .before .potentials .result))

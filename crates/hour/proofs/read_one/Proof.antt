@@ -9,7 +9,8 @@ use Rattle.hour.proofs.read_one.Tie as tie
 
 returns-2 : tie.Need-returns-2
 returns-2 c =
-    let n = c .before .before .before .before .before .args .n in
+    let start = c .before .before .before .before .before in
+    let n = start .args .n in
     let here : n ≤ n = le-refl n in
     (omega arith, rw take-set-le)
 
@@ -17,10 +18,5 @@ pub read-one-spec : {M : Type 1} → statement M
 read-one-spec =
     tie.close
     (tie.spec
-    (λ c. search needs)
-    (λ c κs. search needs)
-    (λ c. search needs)
-    (λ c. search needs)
-    (λ c. search needs)
-    (λ c. search needs)
+    (λ c. search needs) (λ c κs. search needs) (λ c. search needs) (λ c. search needs) (λ c. search needs) (λ c. search needs)
     returns-2)

@@ -9,13 +9,15 @@ use Rattle.hour.proofs.read_two.Tie as tie
 
 returns-2 : tie.Need-returns-2
 returns-2 c =
-    let n = c .before .before .before .before .before .before .args .n in
+    let start = c .before .before .before .before .before .before in
+    let n = start .args .n in
     let here : n ≤ n = le-refl n in
     (omega arith, rw take-set-le)
 
 returns-3 : tie.Need-returns-3
 returns-3 c =
-    let n = c .before .before .before .before .before .before .args .n in
+    let start = c .before .before .before .before .before .before in
+    let n = start .args .n in
     let here : n ≤ n = le-refl n in
     let behind : n ≤ n + 1 = omega arith in
     (omega arith, rw (take-set-le, take-set-le))
@@ -24,15 +26,7 @@ pub read-two-spec : {M : Type 1} → statement M
 read-two-spec =
     tie.close
     (tie.spec
-    (λ c. search needs)
-    (λ c κs. search needs)
-    (λ c. search needs)
-    (λ c. search needs)
-    (λ c. search needs)
-    (λ c. search needs)
+    (λ c. search needs) (λ c κs. search needs) (λ c. search needs) (λ c. search needs) (λ c. search needs) (λ c. search needs)
     returns-2
-    (λ c. search needs)
-    (λ c. search needs)
-    (λ c. search needs)
-    (λ c. search needs)
+    (λ c. search needs) (λ c. search needs) (λ c. search needs) (λ c. search needs)
     returns-3)

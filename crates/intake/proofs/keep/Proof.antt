@@ -1,27 +1,27 @@
--- `keep` goes over each byte once. The loop's invariant: the whole text leaves the row and the state that the rest from here leaves.
+-- `keep` goes over each byte once. The loop's invariant: the whole text leaves the store and the state that the rest from here leaves.
 use mathlib.Core.Path.{_≡_, refl, sym, _∙_, ap}
 use Prim.Native.Nat.{_+_, _-_, _≤_}
 use native.Mathlib.Omega.{arith}
 use borrow.Author.Needs.{needs}
 use lib.ListN.{length, drop}
-use Rattle.intake.specs.Intake.{afterAll, rowAll}
-use Rattle.intake.proofs.Row.{next-byte, no-room, at-end, placed-length}
+use Rattle.intake.specs.Intake.{afterAll, storeAll}
+use Rattle.intake.proofs.Store.{next-byte, no-room, at-end, placed-length}
 use Rattle.intake.proofs.keep.Statement.{statement}
 use Rattle.intake.proofs.keep.Tie as tie
 
 abbrev Inv-loop : tie.InvT-loop
-Inv-loop row₀ bytes last state₀ at₀ row state at =
-    (length row ≡ length row₀)
-    × (afterAll row₀ state₀ bytes ≡ afterAll row state (drop at bytes))
-    × (rowAll row₀ state₀ bytes ≡ rowAll row state (drop at bytes))
+Inv-loop store₀ bytes last state₀ at₀ store state at =
+    (length store ≡ length store₀)
+    × (afterAll store₀ state₀ bytes ≡ afterAll store state (drop at bytes))
+    × (storeAll store₀ state₀ bytes ≡ storeAll store state (drop at bytes))
 
 abbrev μ-loop : tie.MeasureT-loop
-μ-loop row₀ bytes last state₀ at₀ row state at = length bytes - at
+μ-loop store₀ bytes last state₀ at₀ store state at = length bytes - at
 
 returns : tie.Need-returns Inv-loop μ-loop
 returns c =
     let s = c .before .before .before in
-    no-room (s .args .row .now) (s .args .i) (s .args .bytes .now) (omega arith)
+    no-room (s .args .store .now) (s .args .i) (s .args .bytes .now) (omega arith)
 
 loop-holds : tie.Need-loop-holds Inv-loop μ-loop
 loop-holds c = (refl, refl, refl)
@@ -29,7 +29,7 @@ loop-holds c = (refl, refl, refl)
 returns-2 : tie.Need-returns-2 Inv-loop μ-loop
 returns-2 c =
     let l = c .before .before .loop in
-    let e = no-room (l .row) (l .state) (drop (l .at) _) (let h = l .inv .0 in omega arith) in
+    let e = no-room (l .store) (l .state) (drop (l .at) _) (let h = l .inv .0 in omega arith) in
     (e .0 ∙ sym (l .inv .1), e .1 ∙ sym (l .inv .2))
 
 next-requires : tie.Need-next-requires Inv-loop μ-loop
@@ -40,14 +40,14 @@ loop-again c =
     let p = c .before .before .before .before .before .before in
     let l = p .before .loop in
     let told = c .before .before .next .ensures in
-    let room : l .state .n + 3 ≤ length (l .row) = let h = l .inv .0 in omega arith in
-    let e = next-byte (l .row) _ (l .state) _ _ (l .at) room (p .loop-test .taken) (told .0) (told .1) in
-    (ap length (told .1) ∙ placed-length (l .row) (l .state) _ room ∙ l .inv .0, l .inv .1 ∙ e .0, l .inv .2 ∙ e .1)
+    let room : l .state .n + 3 ≤ length (l .store) = let h = l .inv .0 in omega arith in
+    let e = next-byte (l .store) _ (l .state) _ _ (l .at) room (p .loop-test .taken) (told .0) (told .1) in
+    (ap length (told .1) ∙ placed-length (l .store) (l .state) _ room ∙ l .inv .0, l .inv .1 ∙ e .0, l .inv .2 ∙ e .1)
 
 returns-3 : tie.Need-returns-3 Inv-loop μ-loop
 returns-3 c =
     let l = c .before .loop in
-    let e = at-end (l .row) (l .state) _ (l .at) (c .loop-test .left) in
+    let e = at-end (l .store) (l .state) _ (l .at) (c .loop-test .left) in
     (e .0 ∙ sym (l .inv .1), e .1 ∙ sym (l .inv .2))
 
 pub keep-spec : {M : Type 1} → statement M

@@ -9,13 +9,13 @@ returns-3 : tie.Need-returns-3
 returns-3 c =
     let t = c .before in
     let s = t .before .before .before .before in
-    let e = stepped (s .args .i) (s .args .b) (s .args .row .now) (s .pre) (closed (t .before .before .if1 .left) (t .before .if2 .left) (t .if3 .taken)) in
+    let e = stepped (s .args .i) (s .args .b) (s .args .store .now) (s .pre) (closed (t .before .before .if1 .left) (t .before .if2 .left) (t .if3 .taken)) in
     (c .closed-at .ensures ∙ e .0, e .1)
 
 returns-4 : tie.Need-returns-4
 returns-4 c =
     let s = c .before .before .before .before in
-    stepped (s .args .i) (s .args .b) (s .args .row .now) (s .pre) (copied (c .before .before .if1 .left) (c .before .if2 .left) (c .if3 .left))
+    stepped (s .args .i) (s .args .b) (s .args .store .now) (s .pre) (copied (c .before .before .if1 .left) (c .before .if2 .left) (c .if3 .left))
 
 pub next-spec : {M : Type 1} → statement M
 next-spec =

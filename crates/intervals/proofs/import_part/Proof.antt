@@ -10,7 +10,6 @@ use Rattle.intervals.proofs.import_part.Statement.{statement}
 use Rattle.intervals.proofs.import_part.Tie as tie
 
 returns : tie.Need-returns
-unfolding importPart
 returns c = rw (found-told (c .before .before .before .import-fault .ensures) (c .before .fault .given .1))
 
 -- where the block has no fault

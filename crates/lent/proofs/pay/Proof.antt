@@ -24,9 +24,10 @@ returns-2 c = let A = c .before .before .args in too-short (A .parts) (A .n) (A 
 
 loop-again : tie.Need-loop-again Inv-loop μ-loop
 loop-again c =
-    let A = c .before .before .before .before .before .args in
+    let start = c .before .before .before .before .before in
+    let A = start .args in
     let L = c .before .before .loop in
-    let long : length (A .parts) ≡ 30 = c .before .before .before .before .before .good .0 .1 .0 .1 in
+    let long : length (A .parts) ≡ 30 = start .good .0 .1 .0 .1 in
     let told = c .part-at in (
       omega arith,
       simp length-set (omega arith),
@@ -35,7 +36,8 @@ loop-again c =
 
 returns-3 : tie.Need-returns-3 Inv-loop μ-loop
 returns-3 c =
-    let A = c .before .before .before .before .before .args in
+    let start = c .before .before .before .before .before in
+    let A = start .args in
     let L = c .before .before .loop in
     let all : L .i ≡ A .n = omega arith in
     pays (A .parts) (A .n) (A .sum .0) (A .row .now) (omega arith) (omega arith) _ _ (c .cents-of .ensures) (rw (← all) (L .inv .2))
@@ -49,11 +51,7 @@ pay-spec =
     returns
     returns-2
     (λ c. (omega arith, refl, refl))
-    (λ c κs. tt)
-    (λ c. omega arith)
-    (λ c. omega arith)
-    (λ c. omega arith)
-    (λ c. omega arith)
+    (λ c κs. tt) (λ c. omega arith) (λ c. omega arith) (λ c. omega arith) (λ c. omega arith)
     loop-again
     (λ c κs. tt)
     (λ c. c .before .before .loop .inv .1)

@@ -15,9 +15,6 @@ Inv-loop s at start begins₀ i₀ begins i = emptyIn start (drop at s) at ≡ e
 abbrev μ-loop : tie.MeasureT-loop
 μ-loop s at start begins₀ i₀ begins i = length s - i
 
-loop-holds : tie.Need-loop-holds Inv-loop μ-loop
-loop-holds c = refl
-
 returns : tie.Need-returns Inv-loop μ-loop
 returns c =
     let k = c .before .before .before in
@@ -41,8 +38,7 @@ empty-line-spec =
     (tie.spec
     Inv-loop
     μ-loop
-    loop-holds
-    (λ c. search needs) (λ c. search needs)
+    (λ c. refl) (λ c. search needs) (λ c. search needs)
     returns
     (λ c. search needs) (λ c. search needs)
     loop-again

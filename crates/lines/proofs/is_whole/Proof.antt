@@ -12,23 +12,32 @@ returns-2 c =
 
 returns-3 : tie.Need-returns-3
 returns-3 c =
-    let A = c .before .before .before .before .before .args in
+    let start = c .before .before .before .before .before in
+    let A = start .args in
     sym (ends-alone (A .text .now) (A .n) (c .if3 .taken) (sym (c .before .before .byte-at .ensures) ∙ c .before .if2 .left))
 
 returns-4 : tie.Need-returns-4
 returns-4 c =
-    let A = c .before .before .before .before .before .before .before .args in
+    let at-if2 = c .before .before .before in
+    let at-byte-at = at-if2 .before in
+    let at-if1 = at-byte-at .before in
+    let start = at-if1 .before .before in
+    let A = start .args in
     sym
-    (ends-behind (A .text .now) (A .n) (c .before .before .before .before .before .if1 .left) (c .before .before .if3 .left)
-    (sym (c .before .before .before .before .byte-at .ensures) ∙ c .before .before .before .if2 .left)
+    (ends-behind (A .text .now) (A .n) (at-if1 .if1 .left) (c .before .before .if3 .left)
+    (sym (at-byte-at .byte-at .ensures) ∙ at-if2 .if2 .left)
     (sym (c .before .byte-at2 .ensures) ∙ c .if4 .taken))
 
 returns-5 : tie.Need-returns-5
 returns-5 c =
-    let A = c .before .before .before .before .before .before .before .args in
+    let at-if2 = c .before .before .before in
+    let at-byte-at = at-if2 .before in
+    let at-if1 = at-byte-at .before in
+    let start = at-if1 .before .before in
+    let A = start .args in
     sym
-    (ends-other (A .text .now) (A .n) (c .before .before .before .before .before .if1 .left) (c .before .before .if3 .left)
-    (sym (c .before .before .before .before .byte-at .ensures) ∙ c .before .before .before .if2 .left)
+    (ends-other (A .text .now) (A .n) (at-if1 .if1 .left) (c .before .before .if3 .left)
+    (sym (at-byte-at .byte-at .ensures) ∙ at-if2 .if2 .left)
     (λ e. c .if4 .left (c .before .byte-at2 .ensures ∙ e)))
 
 pub is-whole-spec : {M : Type 1} → statement M

@@ -9,8 +9,10 @@ use Rattle.lines.proofs.piece_after.Tie as tie
 returns : tie.Need-returns
 unfolding pieceAfter
 returns c =
-    let s = c .before .before .before .before .before .args .s .now in
-    ap (λ (x : Next). orEnd x s) (sym (c .before .next .given .1) ∙ c .before .before .before .empty-line .ensures)
+    let at-empty-line = c .before .before .before in
+    let start = at-empty-line .before .before in
+    let s = start .args .s .now in
+    ap (λ (x : Next). orEnd x s) (sym (c .before .next .given .1) ∙ at-empty-line .empty-line .ensures)
 
 returns-2 : tie.Need-returns-2
 unfolding pieceAfter

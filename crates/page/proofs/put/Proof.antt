@@ -9,13 +9,13 @@ use Rattle.page.proofs.put.Statement.{statement}
 use Rattle.page.proofs.put.Tie as tie
 
 abbrev Inv-loop : tie.InvT-loop
-Inv-loop row₀ at text next₀ i₀ row next i = Put row₀ at (take i text) row next
+Inv-loop page₀ at text next₀ i₀ page next i = Put page₀ at (take i text) page next
 
 abbrev μ-loop : tie.MeasureT-loop
-μ-loop row₀ at text next₀ i₀ row next i = length text - i
+μ-loop page₀ at text next₀ i₀ page next i = length text - i
 
 loop-holds : tie.Need-loop-holds Inv-loop μ-loop
-loop-holds c = put-none (c .args .row .now) (c .args .at)
+loop-holds c = put-none (c .args .page .now) (c .args .at)
 
 same-length : tie.Need-same-length Inv-loop μ-loop
 same-length c = put-length (c .before .before .loop .inv)

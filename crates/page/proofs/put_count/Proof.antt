@@ -9,11 +9,13 @@ use Rattle.page.proofs.put_count.Tie as tie
 
 returns : tie.Need-returns
 returns c =
-    let d = c .before .before .before .before .before .decimal in
-    let start = c .before .before .before .before .before .before .before .before .before .before .before .before .before in
+    let at-decimal = c .before .before .before .before .before in
+    let at-put = at-decimal .before .before .before .before in
+    let start = at-put .before .before .before .before in
+    let d = at-decimal .decimal in
     let text = d .ensures .1 .1 ∙ decimal-text 19 (d .result) _ (let h = start .fits .n in omega arith) (d .ensures .1 .0) in
     put-then
-    (c .before .before .before .before .before .before .before .before .before .put .ensures)
+    (at-put .put .ensures)
     (put-as text (c .before .before .put2 .ensures))
 
 pub put-count-spec : {M : Type 1} → statement M

@@ -16,24 +16,27 @@ use Rattle.page.proofs.put_signed.Tie as tie
 
 returns : tie.Need-returns
 returns c =
-    let below = c .before .before .before .before .before .before .before .before .before .before in
+    let at-magnitude = c .before .before .before in
+    let at-put = at-magnitude .before .before .before .before .before in
+    let below = at-put .before .before in
     let start = below .before .before .before in
     let v = start .args .v in
     let f = start .fits .v .sfits in
     let minus = lt-is v (pos 0) f (lit< tt) true (below .if1 .taken) in
-    let number = ap (λ (n : ℕ). 45 ∷ count n) (c .before .before .before .magnitude .ensures ∙ ap natAbs (handed v f)) ∙ with-minus v minus in
+    let number = ap (λ (n : ℕ). 45 ∷ count n) (at-magnitude .magnitude .ensures ∙ ap natAbs (handed v f)) ∙ with-minus v minus in
     put-then
-    (c .before .before .before .before .before .before .before .before .put .ensures)
+    (at-put .put .ensures)
     (put-as number (c .before .before .put-count .ensures))
 
 returns-2 : tie.Need-returns-2
 returns-2 c =
-    let from = c .before .before .before .before .before in
+    let at-magnitude2 = c .before .before .before in
+    let from = at-magnitude2 .before .before in
     let start = from .before .before .before in
     let v = start .args .v in
     let f = start .fits .v .sfits in
     let none = lt-is v (pos 0) f (lit< tt) false (from .if1 .left) in
-    let number = ap count (c .before .before .before .magnitude2 .ensures ∙ ap natAbs (handed v f)) ∙ plain v none in
+    let number = ap count (at-magnitude2 .magnitude2 .ensures ∙ ap natAbs (handed v f)) ∙ plain v none in
     put-as (ap (λ (t : List ℕ). start .args .key .now ++ t) number) (c .before .before .put-count2 .ensures)
 
 pub put-signed-spec : {M : Type 1} → statement M

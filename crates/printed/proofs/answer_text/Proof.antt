@@ -1,4 +1,4 @@
--- `answer_text` writes an answer from the row's beginning on.
+-- `answer_text` writes an answer from the page's beginning on.
 use mathlib.Core.Path.{ap}
 use lib.IntN.{ℤ}
 use lib.ListN.{take}

@@ -1,4 +1,4 @@
--- `day_text` writes a refused header's refusal, or the hours and the total, from the row's beginning on.
+-- `day_text` writes a refused header's refusal, or the hours and the total, from the page's beginning on.
 use borrow.Author.Needs.{needs}
 use Rattle.page.proofs.Pages.{put-as}
 use Rattle.printed.proofs.Texts.{put-first, day-text}

@@ -1,4 +1,4 @@
--- `hour_text` settles the block into a row of its own and writes the answer from the lent row's beginning on.
+-- `hour_text` settles the block into a row of its own and writes the answer from the lent page's beginning on.
 use mathlib.Core.Path.{refl, _∙_}
 use Rattle.exact.proofs.Calls.{handed}
 use Rattle.page.proofs.Pages.{put-as}
@@ -9,12 +9,16 @@ use Rattle.printed.proofs.hour_text.Tie as tie
 
 returns : tie.Need-returns
 returns c =
-    let s = c .before .before .before .before .before .before .before .before .before .before .before .before .args .block .now in
-    let settled = c .before .before .before .before .before .before .before .before .settle-block in
-    let said = c .before .before .before .before .before .before .said-by in
+    let at-struct-told = c .before .before .before in
+    let at-said-by = at-struct-told .before .before .before in
+    let at-settle-block = at-said-by .before .before in
+    let start = at-settle-block .before .before .before .before in
+    let s = start .args .block .now in
+    let settled = at-settle-block .settle-block in
+    let said = at-said-by .said-by in
     put-first (
     put-as
-    (hour-text s _ refl (handed (said .result .hour) (c .before .before .before .struct-told .given .0 .1) ∙ said .ensures .0) (said .ensures .1) (settled .ensures .1) (settled .ensures .0))
+    (hour-text s _ refl (handed (said .result .hour) (at-struct-told .struct-told .given .0 .1) ∙ said .ensures .0) (said .ensures .1) (settled .ensures .1) (settled .ensures .0))
     (c .before .before .put-answer .ensures))
 
 pub hour-text-spec : {M : Type 1} → statement M

@@ -1,4 +1,4 @@
--- `import_text` writes the payment or the refusal from the row's beginning on.
+-- `import_text` writes the payment or the refusal from the page's beginning on.
 use mathlib.Core.Path.{ap}
 use borrow.Author.Needs.{needs}
 use Rattle.page.proofs.Pages.{put-as}

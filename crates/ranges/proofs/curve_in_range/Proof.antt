@@ -43,14 +43,16 @@ returns-2 c =
 
 loop-again : tie.Need-loop-again Inv-loop μ-loop
 loop-again c =
-    let l = c .before .before .before .before .before .loop in
+    let at-loop = c .before .before .before .before .before in
+    let l = at-loop .loop in
     (omega arith, omega arith, below-more _ _ (l .inv .2) (passes (c .before .step-in-range .ensures) (c .if3 .left)))
 
 returns-3 : tie.Need-returns-3 Inv-loop μ-loop
 returns-3 c =
+    let bounded-at = c .before .before .before .before in
+    let start = bounded-at .before .before in
     let l = c .before .loop in
-    let b = bounded (c .before .before .before .before) in
-    let start = c .before .before .before .before .before .before in
+    let b = bounded bounded-at in
     all-are _ (held (start .before .before)) (passes (start .before .is-power .ensures) (start .if1 .left)) (λ k u v. l .inv .2 k (let w = b .2 k u v in omega arith))
 
 pub curve-in-range-spec : {M : Type 1} → statement M
@@ -62,13 +64,8 @@ curve-in-range-spec =
     (λ c κs. tt)
     returns
     loop-holds
-    (λ c. omega arith)
-    (λ c. omega arith)
-    (λ c. omega arith)
-    (λ c. omega arith)
-    (λ c κs. tt)
+    (λ c. omega arith) (λ c. omega arith) (λ c. omega arith) (λ c. omega arith) (λ c κs. tt)
     returns-2
-    (λ c. omega arith)
-    (λ c. omega arith)
+    (λ c. omega arith) (λ c. omega arith)
     loop-again
     returns-3)

@@ -7,10 +7,13 @@ use Rattle.ranges.proofs.interval_in_range.Tie as tie
 returns : tie.Need-returns
 unfolding intervalInRange
 returns c =
+    let at-capacities-in-range = c .before .before .before in
+    let at-powers-in-range = at-capacities-in-range .before in
+    let at-is-seconds = at-powers-in-range .before in
     λ i.
-    c .before .before .before .before .before .is-seconds .ensures i
-    && c .before .before .before .before .powers-in-range .ensures i
-    && c .before .before .before .capacities-in-range .ensures i
+    at-is-seconds .is-seconds .ensures i
+    && at-powers-in-range .powers-in-range .ensures i
+    && at-capacities-in-range .capacities-in-range .ensures i
     && c .before .before .uol-in-range .ensures i
     && c .before .bids-in-range .ensures i
     && c .prices-in-range .ensures i

@@ -1,7 +1,7 @@
 -- `is_mark` is the test of its range.
 use mathlib.Core.Path.{_∙_, ap}
 use mir.Facts.{toZ-ofZ}
-use Rattle.tariff.specs.Import.{isMark}
+use Rattle.tariff.specs.Sheet.{isMark}
 use Rattle.ranges.proofs.is_mark.Statement.{statement}
 use Rattle.ranges.proofs.is_mark.Tie as tie
 

@@ -7,9 +7,6 @@ use Rattle.text.proofs.Numbers.{inside-same}
 use Rattle.text.proofs.byte_at.Statement.{statement}
 use Rattle.text.proofs.byte_at.Tie as tie
 
-cast-result : tie.Need-cast-result
-cast-result c = omega (arith, c .shared-slice-known .given (c .before .before .args .at))
-
 returns : tie.Need-returns
 returns c = inside-same (c .before .before .args .s .now) (c .before .before .args .at) 0 256 (c .before .if1 .taken)
 
@@ -17,4 +14,10 @@ returns-2 : tie.Need-returns-2
 returns-2 c = sym (List·getD-eq-default (c .before .args .s .now) 256 (c .if1 .left))
 
 pub byte-at-spec : {M : Type 1} → statement M
-byte-at-spec = tie.close (tie.spec (λ c. search needs) cast-result returns returns-2)
+byte-at-spec =
+    tie.close
+    (tie.spec
+    (λ c. search needs)
+    (λ c. omega (arith, c .shared-slice-known .given (c .before .before .args .at)))
+    returns
+    returns-2)

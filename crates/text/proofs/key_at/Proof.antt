@@ -24,12 +24,6 @@ returns c =
     let a = c .before .before .before .args in
     sym (key-ends (a .key .now) (a .s .now) 0 (a .at) (omega (arith, c .if1 .taken)))
 
-shared-slice-read-k : tie.Need-shared-slice-read-k Inv-loop μ-loop
-shared-slice-read-k c = omega (arith, c .before .if1 .left)
-
-cast-k : tie.Need-cast-k Inv-loop μ-loop
-cast-k c = omega (arith, c .shared-slice-known3 .given 0)
-
 returns-2 : tie.Need-returns-2 Inv-loop μ-loop
 returns-2 c =
     let e = c .before .before .before in
@@ -71,9 +65,6 @@ loop-holds c =
       key-goes-on (a .key .now) (a .s .now) 0 (a .at) (omega (arith, some)) (sym (e .before .byte-at .ensures) ∙ e .if2 .left),
     )
 
-shared-slice-read-if4 : tie.Need-shared-slice-read-if4 Inv-loop μ-loop
-shared-slice-read-if4 c = omega (arith, c .before .before .before .here .given .1)
-
 returns-4 : tie.Need-returns-4 Inv-loop μ-loop
 returns-4 c =
     let w = c .before .before .before in
@@ -97,8 +88,9 @@ loop-again c =
 
 returns-5 : tie.Need-returns-5 Inv-loop μ-loop
 returns-5 c =
+    let start = c .before .before .before .before .before .before .before .before .before .before in
     let l = c .before .loop in
-    let a = c .before .before .before .before .before .before .before .before .before .before .args in
+    let a = start .args in
     sym (l .inv .2 ∙ key-ends (a .key .now) (a .s .now) (l .j) (a .at + l .j) (c .loop-test .left) ∙ ap At (omega arith))
 
 pub key-at-spec : {M : Type 1} → statement M
@@ -108,8 +100,7 @@ key-at-spec =
     Inv-loop
     μ-loop
     returns
-    shared-slice-read-k
-    cast-k
+    (λ c. omega (arith, c .before .if1 .left)) (λ c. omega (arith, c .shared-slice-known3 .given 0))
     (λ c κs. search needs)
     returns-2
     sub-if3
@@ -118,7 +109,7 @@ key-at-spec =
     (λ c. omega arith) (λ c. omega arith)
     part-here-end
     loop-holds
-    shared-slice-read-if4
+    (λ c. omega (arith, c .before .before .before .here .given .1))
     (λ c. search needs)
     returns-4
     (λ c. search needs) (λ c. search needs)

@@ -11,8 +11,10 @@ use Rattle.units.proofs.cents_of.Tie as tie
 
 div-t4 : tie.Need-div-t4
 div-t4 c =
-    let f = c .before .before .before .struct-told .given .0 .1 in
-    let a = c .before .before .before .before .before .args .g .0 in
+    let at-struct-told = c .before .before .before in
+    let start = at-struct-told .before .before in
+    let f = at-struct-told .struct-told .given .0 .1 in
+    let a = start .args .g .0 in
     (lit< tt, quot-fits a _ f (lt-is a (pos 0) f (lit< tt) false (c .before .before .if1 .left)))
 
 returns : tie.Need-returns
@@ -24,8 +26,10 @@ returns c =
 returns-2 : tie.Need-returns-2
 unfolding centsOf
 returns-2 c =
-    let f = c .before .before .before .struct-told .given .0 .1 in
-    let a = c .before .before .before .before .before .args .g .0 in
+    let at-struct-told = c .before .before .before in
+    let start = at-struct-told .before .before in
+    let f = at-struct-told .struct-told .given .0 .1 in
+    let a = start .args .g .0 in
     quot-is a 3600000 f (lt-is a (pos 0) f (lit< tt) false (c .before .before .if1 .left))
 
 pub cents-of-spec : {M : Type 1} → statement M

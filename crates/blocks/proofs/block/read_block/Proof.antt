@@ -4,12 +4,13 @@ use mathlib.Core.List.{List}
 use Prim.Native.Nat.{ℕ}
 use native.Mathlib.Omega.{arith}
 use Rattle.text.specs.declared.Next.the-variants.{At}
-use Rattle.lines.specs.Line.{lineAt}
-use Rattle.blocks.specs.CurveLine.{curveLine, curveOf}
+use Rattle.keys.specs.Keys.{AHEAD, DA, RT}
+use Rattle.blocks.specs.CurveLine.{curveLine, curveSaid}
+use Rattle.blocks.specs.Block.{aheadLine}
 use Rattle.exact.proofs.Held.{held-is}
 use Rattle.lines.proofs.Lines.{FieldsRead, fields-read, line-is}
 use Rattle.blocks.proofs.Values.{ahead-same}
-use Rattle.blocks.proofs.Blocks.{block-line1, block-line2, block-line3, block-row, block-read}
+use Rattle.blocks.proofs.Blocks.{block-line1, block-line2, block-line3, block-series, block-read}
 use borrow.Author.Needs.{needs}
 use Rattle.blocks.proofs.block.read_block.Statement.{statement}
 use Rattle.blocks.proofs.block.read_block.Tie as tie
@@ -21,11 +22,11 @@ text c = c .before .before .before .before .args .s .now
 abbrev begins : tie.After-line-end → ℕ
 begins c = c .before .before .before .before .args .at
 
-fields1 : (c : tie.After-line-end) → FieldsRead 0 10 (text c) (begins c) (c .before .before .fields-at .result)
-fields1 c = fields-read 0 10 _ (begins c) _ refl (c .before .before .fields-at .ensures)
+fields1 : (c : tie.After-line-end) → FieldsRead AHEAD 10 (text c) (begins c) (c .before .before .fields-at .result)
+fields1 c = fields-read AHEAD 10 _ (begins c) _ refl (c .before .before .fields-at .ensures)
 
-line1 : (c : tie.After-line-end) → lineAt 0 10 (text c) (begins c) ≡ c .line-end .result
-line1 c = line-is 0 10 _ (begins c) _ _ (fields1 c .next) (c .line-end .ensures)
+line1 : (c : tie.After-line-end) → aheadLine (text c) (begins c) ≡ c .line-end .result
+line1 c = line-is AHEAD 10 _ (begins c) _ _ (fields1 c .next) (c .line-end .ensures)
 
 module _ (c : tie.After-known-told) where
   abbrev in1 : tie.After-line-end
@@ -34,7 +35,7 @@ module _ (c : tie.After-known-told) where
   abbrev place2 : ℕ
   place2 = c .before .p1 .given .0 .0
 
-  line2-at : lineAt 0 10 (text in1) (begins in1) ≡ At place2
+  line2-at : aheadLine (text in1) (begins in1) ≡ At place2
   line2-at = line1 in1 ∙ c .before .p1 .given .1
 
 module _ (c : tie.After-known-told2) where
@@ -44,10 +45,10 @@ module _ (c : tie.After-known-told2) where
   abbrev place3 : ℕ
   place3 = c .before .da-next .given .0 .0
 
-  line3-at : curveLine 10 (text (in1 in2)) (place2 in2) ≡ At place3
+  line3-at : curveLine DA (text (in1 in2)) (place2 in2) ≡ At place3
   line3-at = sym (c .before .before .before .curve-at .ensures .next) ∙ c .before .da-next .given .1
 
-  da-is : c .before .before .before .curve-at .result .curve ≡ curveOf 10 (text (in1 in2)) (place2 in2)
+  da-is : c .before .before .before .curve-at .result .curve ≡ curveSaid DA (text (in1 in2)) (place2 in2)
   da-is = c .before .before .before .curve-at .ensures .curve _ (c .before .da-next .given .1)
 
 module _ (c : tie.After-known-told3) where
@@ -57,10 +58,10 @@ module _ (c : tie.After-known-told3) where
   abbrev place4 : ℕ
   place4 = c .before .rt-next .given .0 .0
 
-  line4-at : curveLine 12 (text (in1 (in2 in3))) (place3 in3) ≡ At place4
+  line4-at : curveLine RT (text (in1 (in2 in3))) (place3 in3) ≡ At place4
   line4-at = sym (c .before .before .before .curve-at2 .ensures .next) ∙ c .before .rt-next .given .1
 
-  rt-is : c .before .before .before .curve-at2 .result .curve ≡ curveOf 12 (text (in1 (in2 in3))) (place3 in3)
+  rt-is : c .before .before .before .curve-at2 .result .curve ≡ curveSaid RT (text (in1 (in2 in3))) (place3 in3)
   rt-is = c .before .before .before .curve-at2 .ensures .curve _ (c .before .rt-next .given .1)
 
 returns : tie.Need-returns
@@ -80,15 +81,18 @@ returns-3 c =
 returns-4 : tie.Need-returns-4
 returns-4 c =
     let k = c .before .before .before in
-    block-row _ _ _ (line2-at (in2 (in3 k))) _ (line3-at (in3 k)) _ (line4-at k) _ (c .before .before .rows-at .ensures) _ (c .before .if1 .taken) (c .broken-block4 .ensures)
+    block-series _ _ _ (line2-at (in2 (in3 k))) _ (line3-at (in3 k)) _ (line4-at k) _ (c .before .before .series-at .ensures) _ (c .before .if1 .taken) (c .broken-block4 .ensures)
 
 returns-5 : tie.Need-returns-5
 returns-5 c =
-    let k = c .before .before .before .before .before .before .before in
+    let at-ahead-of = c .before .before .before .before in
+    let at-if1 = at-ahead-of .before in
+    let at-series-at = at-if1 .before in
+    let k = at-series-at .before in
     let v = fields1 (in1 (in2 (in3 k))) .values in
-    block-read _ _ _ (line2-at (in2 (in3 k))) _ (line3-at (in3 k)) _ (line4-at k) _ (c .before .before .before .before .before .before .rows-at .ensures) _ _ _ _
-    (c .before .before .before .before .before .if1 .left)
-    (held-is _ _ (c .t25 .given) (v 0 (omega arith))) (c .before .before .before .before .ahead-of .ensures ∙ ahead-same _ _ v) (da-is (in3 k)) (rt-is k)
+    block-read _ _ _ (line2-at (in2 (in3 k))) _ (line3-at (in3 k)) _ (line4-at k) _ (at-series-at .series-at .ensures) _ _ _ _
+    (at-if1 .if1 .left)
+    (held-is _ _ (c .t25 .given) (v 0 (omega arith))) (at-ahead-of .ahead-of .ensures ∙ ahead-same _ _ v) (da-is (in3 k)) (rt-is k)
 
 pub read-block-spec : {M : Type 1} → statement M
 read-block-spec =

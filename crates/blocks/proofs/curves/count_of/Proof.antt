@@ -1,4 +1,4 @@
--- `block::count_of` meets its contract: below 0 and above 12 the answer is 13, and else the number itself.
+-- `curves::count_of` meets its contract: below 0 and above 12 the answer is 13, and else the number itself.
 use Rattle.blocks.proofs.CurveLines.{count-below, count-above, count-fits, count-within}
 use Rattle.blocks.proofs.curves.count_of.Statement.{statement}
 use Rattle.blocks.proofs.curves.count_of.Tie as tie

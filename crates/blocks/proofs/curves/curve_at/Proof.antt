@@ -1,4 +1,4 @@
--- `block::curve_at` meets its contract: the line's head, a count of at most 12, and its pairs.
+-- `curves::curve_at` meets its contract: the line's head, a count of at most 12, and its pairs.
 use mathlib.Core.Path.{_≡_, sym, _∙_, ap}
 use native.Mathlib.Omega.{arith}
 use borrow.Author.Needs.{needs}
@@ -7,7 +7,7 @@ use lib.ListN.{getD}
 use Rattle.exact.proofs.Bits.{held}
 use Rattle.text.specs.declared.Next.{Next}
 use Rattle.lines.specs.Line.{afterFields, valueIn}
-use Rattle.blocks.specs.CurveLine.{countOf}
+use Rattle.blocks.specs.Told.{countOf}
 use Rattle.exact.proofs.Held.{held-is}
 use Rattle.lines.proofs.Lines.{FieldsRead, is-line, fields-read}
 use Rattle.blocks.proofs.CurveLines.{curve-headless, curve-many, curve-read}
@@ -38,14 +38,18 @@ returns c = curve-headless _ _ _ _ _ (head-is (c .before .before .before) (c .be
 
 returns-2 : tie.Need-returns-2
 returns-2 c =
-    let k = c .before .before .before .before .before in
-    curve-many _ _ _ _ (head-is k (c .before .before .before .next .given .1)) _ (count-is k) _ _ (c .before .if1 .taken) (c .no-curve2 .ensures)
+    let at-next = c .before .before .before in
+    let k = at-next .before .before in
+    curve-many _ _ _ _ (head-is k (at-next .next .given .1)) _ (count-is k) _ _ (c .before .if1 .taken) (c .no-curve2 .ensures)
 
 returns-3 : tie.Need-returns-3
 returns-3 c =
-    let k = c .before .before .before .before .before .before .before .before in
-    let p = c .before .before .before .pairs-at in
-    curve-read _ _ _ _ (head-is k (c .before .before .before .before .before .before .next .given .1)) _ (count-is k) (c .before .before .before .before .if1 .left)
+    let at-pairs-at = c .before .before .before in
+    let at-if1 = at-pairs-at .before in
+    let at-next = at-if1 .before .before in
+    let k = at-next .before .before in
+    let p = at-pairs-at .pairs-at in
+    curve-read _ _ _ _ (head-is k (at-next .next .given .1)) _ (count-is k) (at-if1 .if1 .left)
     _ (start-is k) (p .result) (p .ensures) _ (c .line-end .ensures)
 
 pub curve-at-spec : {M : Type 1} → statement M

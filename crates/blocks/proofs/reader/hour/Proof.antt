@@ -41,7 +41,7 @@ use denote.Triple.Table.{entered, cited}
 use denote.Triple.Walked.{says, Stays, stay-none, walkOf, goes-none, Walks, ends-at, walked, walk-meets}
 use denote.Exit.{yes}
 use denote.Triple.Clauses.{ensured, lasts}
-use Rattle.blocks.specs.Block.{blockAt, readOf}
+use Rattle.blocks.specs.Block.{blockAt, hourReadOf}
 use Rattle.blocks.specs.declared.BlockRead.{BlockRead}
 use Rattle.blocks.specs.declared.reader.Reader.{Reader}
 use Rattle.blocks.proofs.BlockRead as B
@@ -78,7 +78,7 @@ module _ {M : Type 1} (𝓤 : URA M) (H : Heap 𝓤) (A : Atoms 𝓤) (W : Given
   v = sliceVal (d .block .ptr) (length (d .block .now))
 
   abbrev Told : BlockRead → Type 0
-  Told h = h ≡ readOf (blockAt (now (d .block)) (d .place))
+  Told h = h ≡ hourReadOf (blockAt (now (d .block)) (d .place))
 
   abbrev Post : Val → SProp 𝓤
   Post = walkOf 𝓤 H A hour.ended stayed (hour.clauses 𝓤 H A mem run) .post (((κ, tt), (q, tt), tt, (d, tt), (mach ∷ [], tt)), tt)

@@ -36,7 +36,7 @@ use denote.Triple.Table.{entered, cited}
 use denote.Triple.Walked.{says, Stays, stay-none, stay-none-slice, walkOf, goes-none, goes-none-slice, Walks, ends-at, walked, walk-meets}
 use denote.Exit.{yes}
 use denote.Triple.Clauses.{ensured, lasts}
-use Rattle.blocks.specs.Block.{blockAt, readOf}
+use Rattle.blocks.specs.Block.{blockAt, hourReadOf}
 use Rattle.blocks.specs.declared.BlockRead.{BlockRead}
 use Rattle.blocks.specs.declared.reader.Reader.{Reader}
 use Rattle.blocks.proofs.BlockRead as B
@@ -111,7 +111,7 @@ module _ {M : Type 1} (𝓤 : URA M) (H : Heap 𝓤) (A : Atoms 𝓤) (W : Given
 
   -- the call of `hour`, at the reader r with the machine value u
   abbrev Told : RefT (List ℕ) → ℕ → BlockRead → Type 0
-  Told b place h = h ≡ readOf (blockAt (now b) place)
+  Told b place h = h ≡ hourReadOf (blockAt (now b) place)
 
   abbrev to-hour : Reader → Val → Hour 𝓤 H A mem run .Ghost
   to-hour r u = (((κ, tt), (q, tt), tt, (r, tt), (u ∷ [], tt)), tt)
@@ -152,7 +152,7 @@ module _ {M : Type 1} (𝓤 : URA M) (H : Heap 𝓤) (A : Atoms 𝓤) (W : Given
         land ! (from ! (stop !)) (init ! 9 refl (LL.lawful B.the-type B′.the-laws 𝓤 H A W .typed h _ is′ .0)) $
         returns ! (look ! 9 refl) $ forget ! 3 refl $ forget ! 5 refl $ forget ! 7 refl $ forget ! 9 refl $
         move ! (9 ∷ 10 ∷ []) $ free1 ! $ move ! (7 ∷ 8 ∷ []) $ free1 ! $ move ! (5 ∷ 6 ∷ []) $ free1 ! $ move ! (3 ∷ 4 ∷ []) $ free1 ! $ free0 ! $
-        by ! (exits h u′ (e′ ∙ ap readOf (ap (λ (b : RefT (List ℕ)). blockAt (now b) (r .place)) (e .0) ∙ ap (blockAt (now s)) (e .1))))))))))))))))
+        by ! (exits h u′ (e′ ∙ ap hourReadOf (ap (λ (b : RefT (List ℕ)). blockAt (now b) (r .place)) (e .0) ∙ ap (blockAt (now s)) (e .1))))))))))))))))
 
 module _ {M : Type 1} (𝓤 : URA M) (H : Heap 𝓤) (A : Atoms 𝓤) (W : Given 𝓤 H A) (mem : Memory → SProp 𝓤) (run : Routine → Fun 𝓤) (𝓣 : Tables 𝓤 H)
     (known-open : Triple 𝓤 (𝓣 .C #open) (Open 𝓤 H A mem run)) (known-hour : Triple 𝓤 (𝓣 .C #hour) (Hour 𝓤 H A mem run)) where

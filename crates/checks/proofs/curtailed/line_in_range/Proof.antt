@@ -2,7 +2,8 @@
 use mathlib.Core.Path.{_≡_, _∙_, ap}
 use mathlib.Core.Bool.{_&&_}
 use Rattle.exact.proofs.Calls.{handed}
-use Rattle.tariff.specs.Import.{isMark, curtailedInRange}
+use Rattle.tariff.specs.Import.{curtailedInRange}
+use Rattle.tariff.specs.Sheet.{isMark}
 use Rattle.checks.proofs.curtailed.line_in_range.Statement.{statement}
 use Rattle.checks.proofs.curtailed.line_in_range.Tie as tie
 

@@ -47,16 +47,7 @@ loop-holds : tie.Need-loop-holds Inv-loop μ-loop
 loop-holds c = (omega arith, below-none _)
 
 small : (c : tie.In-loop Inv-loop μ-loop) → c .before .loop .i < 30
-small c = let s = c .before .before .before .before .before .before in omega (arith, import-form-says (s .args .h) (s .pre))
-
-mul-v : tie.Need-mul-v Inv-loop μ-loop
-mul-v c = omega (arith, small c)
-
-array-copy-out-v : tie.Need-array-copy-out-v Inv-loop μ-loop
-array-copy-out-v c = small c
-
-add-t15 : tie.Need-add-t15 Inv-loop μ-loop
-add-t15 c = omega (arith, small (c .before .before .before))
+small c = let s = (c .before .before .before .before .before .before) in omega (arith, import-form-says (s .args .h) (s .pre))
 
 returns-2 : tie.Need-returns-2 Inv-loop μ-loop
 returns-2 c =
@@ -64,9 +55,6 @@ returns-2 c =
     let h = l .before .before .before .before .before .args .h in
     let line = line-fault (inRange h) 2 (l .loop .i) (l .loop .inv .1) (h .n) (c .before .before .before .loop-test .taken) (fails (c .before .line-in-range .ensures) (c .if2 .taken)) in
     sym (rest (l .before) ∙ line)
-
-add-i : tie.Need-add-i Inv-loop μ-loop
-add-i c = omega (arith, small (c .before .before .before))
 
 loop-again : tie.Need-loop-again Inv-loop μ-loop
 loop-again c =
@@ -87,12 +75,8 @@ range-fault-spec =
     (λ c κs. tt)
     returns
     loop-holds
-    mul-v
-    array-copy-out-v
-    (λ c κs. tt)
-    add-t15
+    (λ c. omega (arith, small c)) (λ c. small c) (λ c κs. tt) (λ c. omega (arith, small (c .before .before .before)))
     returns-2
-    add-i
-    (λ c. omega arith)
+    (λ c. omega (arith, small (c .before .before .before))) (λ c. omega arith)
     loop-again
     returns-3)

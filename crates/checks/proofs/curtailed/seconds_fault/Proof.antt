@@ -33,12 +33,6 @@ loop-holds c = (omega arith, sym (sum-none (secondsOf (c .before .args .h))))
 small : (c : tie.In-loop Inv-loop μ-loop) → c .before .loop .i < 30
 small c = let s = c .before .before .before in omega (arith, import-form-says (s .args .h) (s .pre .0))
 
-mul-v : tie.Need-mul-v Inv-loop μ-loop
-mul-v c = omega (arith, small c)
-
-array-copy-out-v : tie.Need-array-copy-out-v Inv-loop μ-loop
-array-copy-out-v c = small c
-
 seconds-plus-requires : tie.Need-seconds-plus-requires Inv-loop μ-loop
 seconds-plus-requires c κs =
     let s = c .before .before .before .before in
@@ -46,13 +40,12 @@ seconds-plus-requires c κs =
     let h = s .args .h in
     one-more-fits (secondsOf h) (h .n) (l .i) _ (import-form-says h (s .pre .0)) (each-fits h (s .pre .1)) (omega arith) (l .inv .1)
 
-add-i : tie.Need-add-i Inv-loop μ-loop
-add-i c = omega (arith, small (c .before .before))
-
 loop-again : tie.Need-loop-again Inv-loop μ-loop
 loop-again c =
-    let l = c .before .before .before .loop in
-    (omega arith, c .seconds-plus .ensures ∙ rw (sum-more (secondsOf (c .before .before .before .before .before .args .h)) (l .i), l .inv .1))
+    let at-loop = c .before .before .before in
+    let start = at-loop .before .before in
+    let l = at-loop .loop in
+    (omega arith, c .seconds-plus .ensures ∙ rw (sum-more (secondsOf (start .args .h)) (l .i), l .inv .1))
 
 returns : tie.Need-returns Inv-loop μ-loop
 unfolding importSeconds
@@ -68,11 +61,9 @@ seconds-fault-spec =
     Inv-loop
     μ-loop
     loop-holds
-    mul-v
-    array-copy-out-v
+    (λ c. omega (arith, small c)) (λ c. small c)
     seconds-plus-requires
-    add-i
-    (λ c. omega arith)
+    (λ c. omega (arith, small (c .before .before))) (λ c. omega arith)
     loop-again
     (λ c κs. tt)
     returns)

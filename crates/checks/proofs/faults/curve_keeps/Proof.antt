@@ -60,22 +60,31 @@ rising c = rw (← c .before .before .before .loop .inv .1) (c .below .ensures)
 
 returns-2 : tie.Need-returns-2 Inv-loop μ-loop
 returns-2 c =
-    let curve = c .before .before .before .before .before .before .before .before .before .args .c in
-    let l = c .before .before .before .before .loop in
-    keeps-not curve (c .before .before .before .before .before .before .before .before .if1 .left) (l .j) (c .before .before .before .loop-test .taken) (rw (fails (rising (c .before)) (c .if2 .taken)))
+    let at-loop-test = c .before .before .before in
+    let at-loop = at-loop-test .before in
+    let at-if1 = at-loop .before .before .before .before in
+    let start = at-if1 .before in
+    let curve = start .args .c in
+    let l = at-loop .loop in
+    keeps-not curve (at-if1 .if1 .left) (l .j) (at-loop-test .loop-test .taken) (rw (fails (rising (c .before)) (c .if2 .taken)))
 
 returns-3 : tie.Need-returns-3 Inv-loop μ-loop
 returns-3 c =
-    let curve = c .before .before .before .before .before .before .before .before .before .before .before .before .before .before .args .c in
-    let two = c .before .before .before .before .before in
+    let at-if3 = c .before .before .before .before in
+    let two = at-if3 .before in
+    let at-if1 = two .before .before .before .before .before .before .before .before in
+    let start = at-if1 .before in
+    let curve = start .args .c in
     let l = two .before .before .before .before .loop in
-    let fair = fails (c .before .price-at-most .ensures ∙ fair-later curve (l .j) (c .before .before .before .before .if3 .taken)) (c .if4 .taken) in
-    keeps-not curve (c .before .before .before .before .before .before .before .before .before .before .before .before .before .if1 .left) (l .j) (two .before .before .before .loop-test .taken) (rw (passes (rising (two .before)) (two .if2 .left), fair))
+    let fair = fails (c .before .price-at-most .ensures ∙ fair-later curve (l .j) (at-if3 .if3 .taken)) (c .if4 .taken) in
+    keeps-not curve (at-if1 .if1 .left) (l .j) (two .before .before .before .loop-test .taken) (rw (passes (rising (two .before)) (two .if2 .left), fair))
 
 loop-again : tie.Need-loop-again Inv-loop μ-loop
 loop-again c =
-    let curve = c .before .before .before .before .before .before .before .before .before .before .args .c in
-    let l = c .before .before .before .before .before .loop in
+    let at-loop = c .before .before .before .before .before in
+    let start = at-loop .before .before .before .before .before in
+    let curve = start .args .c in
+    let l = at-loop .loop in
     let rise = passes (rising (c .before .before)) (c .before .if2 .left) in
     let fair : isFair curve (l .j) ≡ true =
     ⊎-elim (λ w. passes (w .3 .ensures ∙ fair-later curve (l .j) (w .0 .taken)) (w .4 .left)) (λ w. fair-early curve (l .j) (w .left)) (c .if3 .came)
@@ -84,9 +93,11 @@ loop-again c =
 
 returns-4 : tie.Need-returns-4 Inv-loop μ-loop
 returns-4 c =
-    let curve = c .before .before .before .before .before .before .args .c in
+    let at-if1 = c .before .before .before .before .before in
+    let start = at-if1 .before in
+    let curve = start .args .c in
     let l = c .before .loop in
-    keeps-all curve (c .before .before .before .before .before .if1 .left) (l .j) (omega arith) (l .inv .2)
+    keeps-all curve (at-if1 .if1 .left) (l .j) (omega arith) (l .inv .2)
 
 pub curve-keeps-spec : {M : Type 1} → statement M
 curve-keeps-spec =
@@ -97,18 +108,10 @@ curve-keeps-spec =
     (λ c κs. tt)
     returns
     loop-holds
-    (λ c. omega arith)
-    (λ c. omega arith)
-    (λ c κs. tt)
+    (λ c. omega arith) (λ c. omega arith) (λ c κs. tt)
     returns-2
-    (λ c. omega arith)
-    (λ c. omega arith)
-    (λ c. omega arith)
-    (λ c. omega arith)
-    (λ c. omega arith)
-    (λ c κs. tt)
+    (λ c. omega arith) (λ c. omega arith) (λ c. omega arith) (λ c. omega arith) (λ c. omega arith) (λ c κs. tt)
     returns-3
-    (λ c. omega arith)
-    (λ c. omega arith)
+    (λ c. omega arith) (λ c. omega arith)
     loop-again
     returns-4)

@@ -14,8 +14,10 @@ returns c = rw (c .enum-told .given .1)
 -- the call's answer, of the numbers that its bits stand for
 answer : (c : tie.After-same-hour) → c .same-hour .result ≡ eqZ (c .before .before .before .before .before .args .h .hour) (c .before .before .before .expected .given .0 .0)
 answer c =
-    let hour = handed (c .before .before .before .before .before .args .h .hour) (c .before .struct-told .given .0 .1) in
-    let said = handed (c .before .before .before .expected .given .0 .0) (c .before .before .known-told .given .0 .1) in
+    let at-expected = c .before .before .before in
+    let start = at-expected .before .before in
+    let hour = handed (start .args .h .hour) (c .before .struct-told .given .0 .1) in
+    let said = handed (at-expected .expected .given .0 .0) (c .before .before .known-told .given .0 .1) in
     c .same-hour .ensures ∙ (λ i. eqZ (hour i) (said i))
 
 returns-2 : tie.Need-returns-2

@@ -65,16 +65,9 @@ loop-holds : tie.Need-loop-holds Inv-loop μ-loop
 loop-holds c = (omega arith, below-none _)
 
 small : (c : tie.In-loop Inv-loop μ-loop) → c .before .loop .i < 30
-small c = let s = c .before .before .before .before .before .before .before .before .before .before .before in omega (arith, form-says (s .args .h) (s .pre))
-
-mul-v : tie.Need-mul-v Inv-loop μ-loop
-mul-v c = omega (arith, small c)
-
-array-copy-out-v : tie.Need-array-copy-out-v Inv-loop μ-loop
-array-copy-out-v c = small c
-
-add-t19 : tie.Need-add-t19 Inv-loop μ-loop
-add-t19 c = omega (arith, small (c .before .before .before))
+small c =
+    let place-at = c .before .before .before .before .before .before .before .before .before .before .before in
+    let s = place-at in omega (arith, form-says (s .args .h) (s .pre))
 
 returns-4 : tie.Need-returns-4 Inv-loop μ-loop
 returns-4 c =
@@ -82,9 +75,6 @@ returns-4 c =
     let h = l .before .before .before .before .before .before .before .before .before .before .args .h in
     let line = line-fault (inRange h) 4 (l .loop .i) (l .loop .inv .1) (h .n) (c .before .before .before .loop-test .taken) (fails (c .before .interval-in-range .ensures) (c .if4 .taken)) in
     sym (rest (l .before) ∙ line)
-
-add-i : tie.Need-add-i Inv-loop μ-loop
-add-i c = omega (arith, small (c .before .before .before))
 
 loop-again : tie.Need-loop-again Inv-loop μ-loop
 loop-again c =
@@ -102,20 +92,15 @@ range-fault-spec =
     (tie.spec
     Inv-loop
     μ-loop
-    (λ c κs. tt)
-    (λ c κs. tt)
+    (λ c κs. tt) (λ c κs. tt)
     returns
     (λ c κs. tt)
     returns-2
     (λ c κs. tt)
     returns-3
     loop-holds
-    mul-v
-    array-copy-out-v
-    (λ c κs. tt)
-    add-t19
+    (λ c. omega (arith, small c)) (λ c. small c) (λ c κs. tt) (λ c. omega (arith, small (c .before .before .before)))
     returns-4
-    add-i
-    (λ c. omega arith)
+    (λ c. omega (arith, small (c .before .before .before))) (λ c. omega arith)
     loop-again
     returns-5)

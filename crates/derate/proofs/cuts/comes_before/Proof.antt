@@ -33,13 +33,16 @@ returns-2 c =
 
 returns-3 : tie.Need-returns-3
 returns-3 c =
-    let a = c .before .before .before .before .before .before .args in
+    let start = c .before .before .before .before .before .before in
+    let a = start .args in
     (larger (a .x .0) (a .i) (a .y .0) (a .j) (c .if3 .taken), omega arith)
 
 returns-4 : tie.Need-returns-4
 returns-4 c =
-    let a = c .before .before .before .before .before .before .args in
-    (smaller (a .x .0) (a .i) (a .y .0) (a .j) (c .before .before .before .if1 .left) (c .if3 .left), omega arith)
+    let at-if1 = c .before .before .before in
+    let start = at-if1 .before .before .before in
+    let a = start .args in
+    (smaller (a .x .0) (a .i) (a .y .0) (a .j) (at-if1 .if1 .left) (c .if3 .left), omega arith)
 
 pub comes-before-spec : {M : Type 1} → statement M
 comes-before-spec = tie.close (tie.spec returns returns-2 returns-3 returns-4)

@@ -12,7 +12,10 @@ returns : tie.Need-returns
 returns c = rw (eq-eqb (c .before .before .args .room .0) 0 (c .if1 .taken))
 
 returns-2 : tie.Need-returns-2
-returns-2 c = rw (ne-eqb (c .before .before .before .before .before .args .room .0) 0 (c .before .before .before .if1 .left))
+returns-2 c =
+    let at-if1 = c .before .before .before in
+    let start = at-if1 .before .before in
+    rw (ne-eqb (start .args .room .0) 0 (at-if1 .if1 .left))
 
 pub floor-of-spec : {M : Type 1} → statement M
 floor-of-spec =

@@ -1,7 +1,7 @@
 -- `five::shares` meets its contract: what the floors leave of the reduction is handed out by the remainders.
 use Prim.Native.Nat.{_≤_}
 use native.Mathlib.Omega.{arith}
-use Rattle.derate.specs.Five.{cutAt, Small}
+use Rattle.derate.specs.Five.{cutAt, SmallFive}
 use Rattle.derate.proofs.Fives.{small-all, low-small, low-within, shares-are}
 use Rattle.derate.proofs.five.shares.Statement.{statement}
 use Rattle.derate.proofs.five.shares.Tie as tie
@@ -9,7 +9,7 @@ use Rattle.derate.proofs.five.shares.Tie as tie
 few : (c : tie.Start) → c .args .red .0 ≤ 24000000
 few c = omega (arith, small-all (c .args .pot) (c .pre .0))
 
-small : (c : tie.After-floors) → Small (c .floors .result)
+small : (c : tie.After-floors) → SmallFive (c .floors .result)
 small c = let s = c .before .before in low-small (s .args .pot) (s .args .red .0) (s .pre .0) (s .pre .1) (c .floors .ensures)
 
 cut-minus-requires : tie.Need-cut-minus-requires

@@ -1,45 +1,49 @@
 -- `heads::in_range` tests the number of a line or the digits of a row.
-use mathlib.Core.Path.{refl, sym, _∙_, ap}
-use native.Mathlib.Omega.{arith}
+use mathlib.Core.Path.{_∙_}
 use borrow.Author.Needs.{needs}
 use Rattle.exact.proofs.Calls.{handed}
-use Rattle.tariff.specs.Sheet.{allTo}
-use Rattle.header.specs.Places.{numberFits}
-use Rattle.header.proofs.Said.{number-on}
-use Rattle.header.proofs.HeaderRanges.{number-range, category-range, bit-range}
+use Rattle.header.specs.Layout.{lineInRange}
+use Rattle.header.proofs.HeaderLines.{keyed-below}
+use Rattle.header.proofs.Said.{number-range, row-inside, row-range}
 use Rattle.header.proofs.heads.in_range.Statement.{statement}
 use Rattle.header.proofs.heads.in_range.Tie as tie
+
+number-of-requires : tie.Need-number-of-requires
+number-of-requires c κs =
+    let l = c .before in
+    keyed-below (l .line .given .1) (l .before .before .before .pre .keyed)
+
+all-admitted-requires : tie.Need-all-admitted-requires
+all-admitted-requires c κs =
+    let l = c .before .before in
+    row-inside _ _ _ (l .line2 .given .1) (l .before .before .before .pre .whole) _ (c .row-start .ensures)
 
 returns : tie.Need-returns
 returns c =
     let n = c .before in
-    let a = n .before .before .before .args in
-    c .number-fits .ensures
-    ∙ ap (numberFits (a .j)) (handed _ (n .number-of .ok) ∙ n .number-of .ensures ∙ sym (number-on (a .hours) (a .j) _ _ (n .before .before .before .pre .0 .place)))
-    ∙ sym (number-range (a .hours) (a .j) _ (n .before .if1 .taken))
+    let fits = n .before .known-told .given .1 in
+    let said = handed _ (n .number-of .ok) ∙ n .number-of .ensures in
+    number-range _ _ _ (n .before .before .line .given .1) (handed _ (fits .0 .1)) (handed _ (fits .1 .0 .1)) said (c .lies-in .ensures)
 
 returns-2 : tie.Need-returns-2
-unfolding allTo
 returns-2 c =
-    let r = c .before .before in
-    let s = r .before .before .before in
-    category-range (s .args .hours) (s .args .j) _ _ _ (s .pre .0) (r .row-start .ensures) _ (c .all-admitted .ensures) refl (c .before .if2 .taken)
+    let r = c .before in
+    let l = r .before .before in
+    row-range _ _ _ (l .line2 .given .1) (l .before .before .before .pre .whole) _ (r .row-start .ensures) (c .all-admitted .ensures)
 
 returns-3 : tie.Need-returns-3
-unfolding allTo
-returns-3 c =
-    let r = c .before .before in
-    let s = r .before .before .before in
-    let other = c .before .if2 .left in
-    bit-range (s .args .hours) (s .args .j) _ _ _ (s .pre .0) (r .row-start .ensures) _ (c .all-admitted2 .ensures) refl (omega arith) (s .pre .1)
+unfolding lineInRange
+returns-3 c = rw (c .enum-told .given .1)
 
 pub in-range-spec : {M : Type 1} → statement M
 in-range-spec =
     tie.close
     (tie.spec
-    (λ c κs. search needs) (λ c κs. search needs)
+    (λ c. search needs)
+    number-of-requires
+    (λ c κs. search needs) (λ c. search needs) (λ c κs. search needs)
+    all-admitted-requires
+    (λ c. search needs)
     returns
-    (λ c κs. search needs) (λ c κs. search needs)
     returns-2
-    (λ c κs. search needs)
     returns-3)

@@ -12,4 +12,4 @@ returns-2 : tie.Need-returns-2
 returns-2 c = sym (ap placeIn (sym (c .before .before .key-number .ensures) ∙ c .enum-told .given .1))
 
 pub row-start-spec : {M : Type 1} → statement M
-row-start-spec = tie.close (tie.spec (λ c. search needs) (λ c κs. search needs) (λ c. search needs) (λ c. search needs) returns returns-2)
+row-start-spec = tie.close (tie.spec (λ c κs. search needs) (λ c. search needs) (λ c. search needs) returns returns-2)

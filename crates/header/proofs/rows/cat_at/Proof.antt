@@ -20,9 +20,6 @@ loop-holds : tie.Need-loop-holds Inv-loop μ-loop
 unfolding upTo
 loop-holds c = (omega arith, refl)
 
-cast-cat : tie.Need-cast-cat Inv-loop μ-loop
-cast-cat c = omega (arith, c .digit-at .ensures .1)
-
 loop-again : tie.Need-loop-again Inv-loop μ-loop
 loop-again c = (omega arith, fill-next _ _ _ 24 (omega arith) (c .before .before .loop .inv .1) (c .digit-at .ensures .0))
 
@@ -40,7 +37,7 @@ cat-at-spec =
     μ-loop
     loop-holds
     (λ c. search needs) (λ c κs. search needs)
-    cast-cat
+    (λ c. omega (arith, c .digit-at .ensures .1))
     (λ c. search needs) (λ c. search needs) (λ c. search needs)
     loop-again
     returns)

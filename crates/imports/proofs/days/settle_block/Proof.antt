@@ -6,10 +6,9 @@ use lib.IntN.{ℤ}
 use lib.ListN.{drop}
 use borrow.Author.Needs.{needs}
 use Rattle.exact.proofs.Calls.{handed}
-use Rattle.tariff.specs.Import.{importPart}
 use Rattle.lines.proofs.Pieces.{lent-to-the-end}
-use Rattle.imports.specs.Import.{importBlockAt}
-use Rattle.imports.specs.Read.{readOf}
+use Rattle.imports.specs.Import.{read, importBlockAt}
+use Rattle.imports.specs.Read.{importReadOf, blockWorth}
 use Rattle.imports.proofs.Blocks.{part-broken, part-read}
 use Rattle.imports.proofs.days.settle_block.Statement.{statement}
 use Rattle.imports.proofs.days.settle_block.Tie as tie
@@ -18,8 +17,8 @@ module _ (c : tie.After-read-block) where
   abbrev begun : tie.Start
   begun = c .before .before .before
 
-  read-is : c .read-block .result ≡ readOf (importBlockAt (drop (begun .args .at) (begun .args .s .now)) 0)
-  read-is = c .read-block .ensures ∙ ap (λ (l : List ℕ). readOf (importBlockAt l 0)) (lent-to-the-end (begun .args .s .now) (begun .args .at))
+  read-is : c .read-block .result ≡ importReadOf (importBlockAt (drop (begun .args .at) (begun .args .s .now)) 0)
+  read-is = c .read-block .ensures ∙ ap (λ (l : List ℕ). importReadOf (importBlockAt l 0)) (lent-to-the-end (begun .args .s .now) (begun .args .at))
 
 returns : tie.Need-returns
 returns c = part-broken _ _ _ _ (read-is (c .before)) (c .if1 .taken)
@@ -29,7 +28,7 @@ returns-2 c =
     let k = c .before .before .before in
     let s = begun k in
     part-read _ _ _ _ (read-is k) _ (c .before .before .if1 .left)
-    (c .import-part .ensures ∙ ap (λ (cts : ℤ). importPart cts (k .read-block .result .hour) (s .args .k)) (handed (s .args .cts) (s .fits .cts .sfits)))
+    (c .import-part .ensures ∙ ap (λ (cts : ℤ). blockWorth cts (read (k .read-block .result .hour)) (s .args .k)) (handed (s .args .cts) (s .fits .cts .sfits)))
 
 pub settle-block-spec : {M : Type 1} → statement M
 settle-block-spec =

@@ -1,6 +1,7 @@
 -- `days::settle_blocks` meets its contract. Before block k the code holds the sum of those before k and the place behind them.
-use mathlib.Core.Path.{_≡_, sym, ap, _∙_}
-use Prim.Native.Nat.{_*_, _-_, _≤_}
+use mathlib.Core.Path.{_≡_, ap, _∙_}
+use mathlib.Core.List.{List}
+use Prim.Native.Nat.{ℕ, _*_, _-_, _≤_}
 use native.Mathlib.Omega.{arith}
 use lib.IntN.{ℤ}
 use lib.ListN.{drop}
@@ -10,10 +11,9 @@ use mir.Val.{toZ}
 use Rattle.exact.proofs.Bits.{held}
 use Rattle.exact.proofs.Calls.{handed}
 use Rattle.exact.proofs.Range.{within-more}
-use Rattle.tariff.specs.Import.{Part, partsTo, settled, worthTold}
+use Rattle.tariff.specs.Reply.{clear}
 use Rattle.lines.proofs.Pieces.{piece-behind}
-use Rattle.imports.specs.Import.{partAt}
-use Rattle.imports.specs.Read.{handedOn}
+use Rattle.imports.specs.Import.{replyUnder}
 use Rattle.imports.proofs.Added.{Added, none-added, here-within, one-added, one-refused, all-surplus, all-paid}
 use Rattle.imports.proofs.days.settle_blocks.Statement.{statement}
 use Rattle.imports.proofs.days.settle_blocks.Tie as tie
@@ -24,9 +24,13 @@ Inv-loop s at name cts hours sum₀ i₀ k₀ sum i k = (k ≤ hours) × Added (
 abbrev μ-loop : tie.MeasureT-loop
 μ-loop s at name cts hours sum₀ i₀ k₀ sum i k = hours - k
 
--- the day's blocks by the mark that is handed over
-day-is : (s : tie.Start Inv-loop μ-loop) → partsTo (partAt (held (s .args .cts)) (drop (s .args .at) (s .args .s .now))) (s .args .hours) ≡ partsTo (partAt (s .args .cts) (drop (s .args .at) (s .args .s .now))) (s .args .hours)
-day-is s = ap (λ (cts : ℤ). partsTo (partAt cts (drop (s .args .at) (s .args .s .now))) (s .args .hours)) (handed (s .args .cts) (s .fits .cts .sfits))
+-- the reply by the mark that is handed over
+module _ (s : tie.Start Inv-loop μ-loop) where
+  abbrev body : List ℕ
+  body = drop (s .args .at) (s .args .s .now)
+
+  reply-is : (name : ℤ) → replyUnder clear name (held (s .args .cts)) (s .args .hours) body ≡ replyUnder clear name (s .args .cts) (s .args .hours) body
+  reply-is name = ap (λ (cts : ℤ). replyUnder clear name cts (s .args .hours) body) (handed (s .args .cts) (s .fits .cts .sfits))
 
 loop-holds : tie.Need-loop-holds Inv-loop μ-loop
 loop-holds c = (omega arith, none-added _ _ _ (c .before .pre .0))
@@ -39,10 +43,9 @@ returns c =
     let b = c .before .before .before in
     let L = b .before .before .loop in
     let s = b .before .before .before .before in
-    let told = ap worthTold (c .before .enum-told .given .1) in
     c .handed-on .ensures
-    ∙ ap (λ (p : Part). handedOn p (L .k)) told
-    ∙ sym (ap (settled _ _) (sym (day-is s) ∙ one-refused _ _ _ _ _ _ (L .inv .1) _ (b .settle-block .ensures) _ _ _ (b .before .loop-test .taken) told))
+    ∙ one-refused _ _ _ _ _ _ (L .inv .1) _ (b .settle-block .ensures) _ _ _ (b .before .loop-test .taken) (c .before .enum-told .given .1)
+    ∙ reply-is s _
 
 plus-requires : tie.Need-plus-requires Inv-loop μ-loop
 plus-requires c κs =
@@ -52,17 +55,17 @@ plus-requires c κs =
     let few = s .pre .1 in
     let fits : 108000000000000000 * L .k ≤ 4000000000000000000 = omega arith in (
       within-more fits (L .inv .1 .within),
-      here-within _ _ _ _ _ _ (L .inv .1) _ (b .settle-block .ensures) _ (ap worthTold (c .before .answer .given .1)),
+      here-within _ _ _ _ _ _ (L .inv .1) _ (b .settle-block .ensures) _ (c .before .answer .given .1),
     )
 
 loop-again : tie.Need-loop-again Inv-loop μ-loop
 loop-again c =
     let k = c .before .before in
     let b = k .before .before .before in
-    let L = b .before .before .loop in (
+    let L = b .before .before .loop in
+    let next = piece-behind _ _ _ (c .piece-after .ensures) in (
       omega arith,
-      rw (c .before .plus .ensures)
-          (one-added _ _ _ _ _ _ (L .inv .1) _ (b .settle-block .ensures) _ _ (ap worthTold (k .before .answer .given .1)) (piece-behind _ _ _ (c .piece-after .ensures) .0) (piece-behind _ _ _ (c .piece-after .ensures) .1)),
+      rw (c .before .plus .ensures) (one-added _ _ _ _ _ _ (L .inv .1) _ (b .settle-block .ensures) _ (k .before .answer .given .1) _ (next .0) (next .1)),
     )
 
 -- after the last block
@@ -73,7 +76,7 @@ returns-2 : tie.Need-returns-2 Inv-loop μ-loop
 returns-2 c =
     let L = c .before .before .loop in
     let s = c .before .before .before .before in
-    all-surplus _ _ _ _ _ _ (rw (all (c .before)) at (L .inv .1)) _ (c .if1 .taken) ∙ ap (settled _ _) (day-is s)
+    all-surplus _ _ _ _ _ _ (rw (all (c .before)) at (L .inv .1)) _ (c .if1 .taken) ∙ reply-is s _
 
 returns-3 : tie.Need-returns-3 Inv-loop μ-loop
 returns-3 c =
@@ -81,7 +84,7 @@ returns-3 c =
     let L = k .before .loop in
     let s = k .before .before .before in
     rw (handed (s .args .name) (s .fits .name .sfits))
-    (all-paid _ _ _ _ _ _ (rw (all k) at (L .inv .1)) _ _ (c .before .if1 .left) (c .cents-of .ensures) ∙ ap (settled _ _) (day-is s))
+    (all-paid _ _ _ _ _ _ (rw (all k) at (L .inv .1)) _ _ (c .before .if1 .left) (c .cents-of .ensures) ∙ reply-is s _)
 
 pub settle-blocks-spec : {M : Type 1} → statement M
 settle-blocks-spec =

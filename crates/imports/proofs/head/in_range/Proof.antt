@@ -3,7 +3,7 @@ use mathlib.Core.Path.{_≡_, sym, _∙_, ap}
 use mathlib.Core.Bool.{Bool}
 use borrow.Author.Needs.{needs}
 use Rattle.exact.proofs.Calls.{handed}
-use Rattle.tariff.specs.Import.{isName, isMark}
+use Rattle.tariff.specs.Sheet.{isName, isMark}
 use Rattle.imports.proofs.head.in_range.Statement.{statement}
 use Rattle.imports.proofs.head.in_range.Tie as tie
 

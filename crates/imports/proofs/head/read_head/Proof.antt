@@ -7,8 +7,9 @@ use native.Mathlib.Omega.{arith}
 use lib.IntN.{ℤ}
 use borrow.Author.Needs.{needs}
 use Rattle.exact.proofs.Calls.{passes, fails}
-use Rattle.tariff.specs.Import.{isMark, isName}
+use Rattle.tariff.specs.Sheet.{isMark, isName}
 use Rattle.text.specs.declared.Next.the-variants.{At}
+use Rattle.keys.specs.Keys.{IMPORT}
 use Rattle.lines.specs.Line.{lineFeed}
 use Rattle.exact.proofs.Held.{held-is}
 use Rattle.lines.proofs.Lines.{FieldsRead, fields-read, line-is}
@@ -21,11 +22,11 @@ use Rattle.imports.proofs.head.read_head.Tie as tie
 abbrev text : tie.After-line-end → List ℕ
 text c = c .before .before .before .before .args .s .now
 
-fields1 : (c : tie.After-line-end) → FieldsRead 36 2 (text c) 0 (c .before .before .fields-at .result)
-fields1 c = fields-read 36 2 _ 0 _ refl (c .before .before .fields-at .ensures)
+fields1 : (c : tie.After-line-end) → FieldsRead IMPORT 2 (text c) 0 (c .before .before .fields-at .result)
+fields1 c = fields-read IMPORT 2 _ 0 _ refl (c .before .before .fields-at .ensures)
 
 line1 : (c : tie.After-line-end) → headLine (text c) ≡ c .line-end .result
-line1 c = line-is 36 2 _ 0 _ _ (fields1 c .next) (c .line-end .ensures)
+line1 c = line-is IMPORT 2 _ 0 _ _ (fields1 c .next) (c .line-end .ensures)
 
 module _ (c : tie.After-known-told) where
   abbrev in1 : tie.After-line-end

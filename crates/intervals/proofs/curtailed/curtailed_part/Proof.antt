@@ -41,7 +41,8 @@ price-minus-requires c κs =
 
 product-requires : tie.Need-product-requires
 product-requires c κs =
-    let p = c .before .before .before .before .before .pre in (
+    let start = c .before .before .before .before .before in
+    let p = start .pre in (
       rw (c .before .before .kw-minus .ensures) (within-less (p .0) (p .2)),
       rw (c .price-minus .ensures, c .before .price-or-zero .ensures) (within-less (p .3) (within-max (p .1) (within-zero 1000000))),
       p .4,

@@ -52,14 +52,16 @@ array-copy-out-v c = let u = few (c .before .before .before .before .before) in 
 
 curtailed-part-requires : tie.Need-curtailed-part-requires Inv-loop μ-loop
 curtailed-part-requires c κs =
-    let p = says (c .before .before .before .before .before .before) in
+    let says-at = c .before .before .before .before .before .before in
+    let p = says says-at in
     let v = p .1 (c .before .before .loop .i) (c .before .loop-test .taken) in
     (p .0 .den, p .0 .dec, v .rten, v .lbmp, v .s)
 
 grains-plus-requires : tie.Need-grains-plus-requires Inv-loop μ-loop
 grains-plus-requires c κs =
-    let s = c .before .before .before .before .before .before .before in
-    let L = c .before .before .before .loop in
+    let at-loop = c .before .before .before in
+    let s = at-loop .before .before .before .before in
+    let L = at-loop .loop in
     let u = few s in
     let fits : 3600000000000000 * L .i ≤ 4000000000000000000 = omega arith in (
       rw (L .inv .1 (s .args .h .hour)) (within-more fits (sum-within 3600000000000000 _ (L .i) (λ j v. each s j (omega arith)))),
@@ -71,8 +73,10 @@ add-i c = let u = few (c .before .before .before .before .before .before .before
 
 loop-again : tie.Need-loop-again Inv-loop μ-loop
 loop-again c =
-    let h = c .before .before .before .before .before .before .before .before .args .h in
-    let L = c .before .before .before .before .loop in (
+    let at-loop = c .before .before .before .before in
+    let start = at-loop .before .before .before .before in
+    let h = start .args .h in
+    let L = at-loop .loop in (
       omega arith,
       λ hour.
           rw (

@@ -33,12 +33,16 @@ reaches t c q den e = rw (e, le-not-lt, ← c .below .ensures, q)
 
 returns-3 : tie.Need-returns-3
 unfolding counts
-returns-3 c h e = rw (no-cts (c .before .before .before .before .before), was-cut (c .before .before), reaches true (c .before) (c .if3 .taken) (h .den) e)
+returns-3 c h e =
+    let no-cts-at = c .before .before .before .before .before in
+    rw (no-cts no-cts-at, was-cut (c .before .before), reaches true (c .before) (c .if3 .taken) (h .den) e)
 
 returns-4 : tie.Need-returns-4
 unfolding counts
 returns-4 c h e =
-    rw (no-cts (c .before .before .before .before .before .before), was-cut (c .before .before .before), reaches false (c .before .before) (c .before .if3 .left) (h .den) e)
+    let was-cut-at = c .before .before .before in
+    let no-cts-at = was-cut-at .before .before .before in
+    rw (no-cts no-cts-at, was-cut was-cut-at, reaches false (c .before .before) (c .before .if3 .left) (h .den) e)
     (c .price-at-most .ensures)
 
 pub is-counted-spec : {M : Type 1} → statement M

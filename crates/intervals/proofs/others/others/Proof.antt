@@ -55,7 +55,8 @@ reserve-part-requires-3 c κs =
 
 movement-part-requires : tie.Need-movement-part-requires
 movement-part-requires c κs =
-    let v = live (c .before .before .before .before .before .before .before .before .before .before .before .before) in
+    let live-at = c .before .before .before .before .before .before .before .before .before .before .before .before in
+    let v = live live-at in
     (v .mv, v .pmv, v .bmv)
 
 -- ---- their sums
@@ -103,17 +104,24 @@ grains-minus-requires c κs = (
 returns : tie.Need-returns
 unfolding otherThanEnergy
 returns c =
+    let at-grains-plus2 = c .before .before .before in
+    let at-grains-plus = at-grains-plus2 .before in
+    let at-reserve-part3 = at-grains-plus .before in
+    let at-reserve-part2 = at-reserve-part3 .before .before in
+    let at-reserve-part = at-reserve-part2 .before .before in
+    let at-regulation-part = at-reserve-part .before .before in
+    let start = at-regulation-part .before .before .before in
     rw (
       c .grains-minus .ensures,
       c .before .movement-part .ensures,
       c .before .before .grains-plus3 .ensures,
-      c .before .before .before .grains-plus2 .ensures,
-      c .before .before .before .before .grains-plus .ensures,
-      c .before .before .before .before .before .reserve-part3 .ensures,
-      c .before .before .before .before .before .before .before .reserve-part2 .ensures,
-      c .before .before .before .before .before .before .before .before .before .reserve-part .ensures,
-      c .before .before .before .before .before .before .before .before .before .before .before .regulation-part .ensures,
-      c .before .before .before .before .before .before .before .before .before .before .before .before .before .before .pre .2,
+      at-grains-plus2 .grains-plus2 .ensures,
+      at-grains-plus .grains-plus .ensures,
+      at-reserve-part3 .reserve-part3 .ensures,
+      at-reserve-part2 .reserve-part2 .ensures,
+      at-reserve-part .reserve-part .ensures,
+      at-regulation-part .regulation-part .ensures,
+      start .pre .2,
     )
 
 pub others-spec : {M : Type 1} → statement M

@@ -8,12 +8,14 @@ mul-t4 c = let p = c .before .before .before .before .pre in fits tt (is-mul (le
 
 mul-t5 : tie.Need-mul-t5
 mul-t5 c =
-    let p = c .before .before .before .before .before .before .pre in
+    let start = c .before .before .before .before .before .before in
+    let p = start .pre in
     fits tt (is-mul (back tt (is-mul (leaf tt (p .0)) (leaf tt (p .1)))) (leaf tt (p .2)))
 
 returns : tie.Need-returns
 returns c =
-    let p = c .before .before .before .before .before .before .pre in
+    let start = c .before .before .before .before .before .before in
+    let p = start .pre in
     gives tt (is-mul (back tt (is-mul (leaf tt (p .0)) (leaf tt (p .1)))) (leaf tt (p .2)))
 
 pub product-spec : {M : Type 1} → statement M

@@ -1,26 +1,28 @@
 -- `table::curve_key` compares a key of the table: each arm's byte string is the table's key of that number, and the last arm's
--- number is 15, since it is none of the others.
+-- number is 5, since it is none of the others.
 use mathlib.Core.Path.{refl}
 use native.Mathlib.Omega.{arith}
-use Rattle.keys.proofs.Keys.{key-same, none-from}
+use Rattle.keys.specs.Keys.{DA}
+use Rattle.keys.proofs.Keys.{key-same, none-below}
 use Rattle.keys.proofs.table.curve_key.Statement.{statement}
 use Rattle.keys.proofs.table.curve_key.Tie as tie
 
 last : tie.Need-returns-6
 last c =
     let a = c .before .before .before .before in
-    let h = none-from (a .args .k) 10 5 (a .pre .0) (c .before .before .match .rest) in
-    key-same (a .args .k) 15 _ _ (omega arith) (c .key-at6 .ensures)
+    let h = none-below (a .args .k) 5 (c .before .before .match .rest) in
+    let u = a .pre in
+    key-same DA (a .args .k) 5 _ _ (omega arith) (c .key-at6 .ensures)
 
 pub curve-key-spec : {M : Type 1} → statement M
 curve-key-spec =
     tie.close
     (tie.spec
-    (λ c. refl) (λ c κs. tt) (λ c. refl) (λ c κs. tt) (λ c. refl) (λ c κs. tt) (λ c. refl) (λ c κs. tt)
-    (λ c. refl) (λ c κs. tt) (λ c. refl) (λ c κs. tt)
-    (λ c. key-same _ 10 _ _ (c .before .before .match .keys1) (c .key-at .ensures))
-    (λ c. key-same _ 11 _ _ (c .before .before .match .keys2) (c .key-at2 .ensures))
-    (λ c. key-same _ 12 _ _ (c .before .before .match .keys3) (c .key-at3 .ensures))
-    (λ c. key-same _ 13 _ _ (c .before .before .match .keys4) (c .key-at4 .ensures))
-    (λ c. key-same _ 14 _ _ (c .before .before .match .keys5) (c .key-at5 .ensures))
+    (λ c. refl) (λ c κs. tt) (λ c. refl) (λ c κs. tt) (λ c. refl) (λ c κs. tt) (λ c. refl) (λ c κs. tt) (λ c. refl) (λ c κs. tt)
+    (λ c. refl) (λ c κs. tt)
+    (λ c. key-same DA _ 0 _ _ (c .before .before .match .keys1) (c .key-at .ensures))
+    (λ c. key-same DA _ 1 _ _ (c .before .before .match .keys2) (c .key-at2 .ensures))
+    (λ c. key-same DA _ 2 _ _ (c .before .before .match .keys3) (c .key-at3 .ensures))
+    (λ c. key-same DA _ 3 _ _ (c .before .before .match .keys4) (c .key-at4 .ensures))
+    (λ c. key-same DA _ 4 _ _ (c .before .before .match .keys5) (c .key-at5 .ensures))
     last)

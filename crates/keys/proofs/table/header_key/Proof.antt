@@ -1,31 +1,32 @@
 -- `table::header_key` compares a key of the table: each arm's byte string is the table's key of that number, and the last arm's
--- number is 57, since it is none of the others.
+-- number is 9, since it is none of the others.
 use mathlib.Core.Path.{refl}
 use native.Mathlib.Omega.{arith}
-use Rattle.keys.proofs.Keys.{key-same, none-from}
+use Rattle.keys.specs.Keys.{HEADER}
+use Rattle.keys.proofs.Keys.{key-same, none-below}
 use Rattle.keys.proofs.table.header_key.Statement.{statement}
 use Rattle.keys.proofs.table.header_key.Tie as tie
 
 last : tie.Need-returns-10
 last c =
     let a = c .before .before .before .before in
-    let h = none-from (a .args .k) 48 9 (a .pre .0) (c .before .before .match .rest) in
-    key-same (a .args .k) 57 _ _ (omega arith) (c .key-at10 .ensures)
+    let h = none-below (a .args .k) 9 (c .before .before .match .rest) in
+    let u = a .pre in
+    key-same HEADER (a .args .k) 9 _ _ (omega arith) (c .key-at10 .ensures)
 
 pub header-key-spec : {M : Type 1} → statement M
 header-key-spec =
     tie.close
     (tie.spec
-    (λ c. refl) (λ c κs. tt) (λ c. refl) (λ c κs. tt) (λ c. refl) (λ c κs. tt) (λ c. refl) (λ c κs. tt)
-    (λ c. refl) (λ c κs. tt) (λ c. refl) (λ c κs. tt) (λ c. refl) (λ c κs. tt) (λ c. refl) (λ c κs. tt)
-    (λ c. refl) (λ c κs. tt) (λ c. refl) (λ c κs. tt)
-    (λ c. key-same _ 48 _ _ (c .before .before .match .keys1) (c .key-at .ensures))
-    (λ c. key-same _ 49 _ _ (c .before .before .match .keys2) (c .key-at2 .ensures))
-    (λ c. key-same _ 50 _ _ (c .before .before .match .keys3) (c .key-at3 .ensures))
-    (λ c. key-same _ 51 _ _ (c .before .before .match .keys4) (c .key-at4 .ensures))
-    (λ c. key-same _ 52 _ _ (c .before .before .match .keys5) (c .key-at5 .ensures))
-    (λ c. key-same _ 53 _ _ (c .before .before .match .keys6) (c .key-at6 .ensures))
-    (λ c. key-same _ 54 _ _ (c .before .before .match .keys7) (c .key-at7 .ensures))
-    (λ c. key-same _ 55 _ _ (c .before .before .match .keys8) (c .key-at8 .ensures))
-    (λ c. key-same _ 56 _ _ (c .before .before .match .keys9) (c .key-at9 .ensures))
+    (λ c. refl) (λ c κs. tt) (λ c. refl) (λ c κs. tt) (λ c. refl) (λ c κs. tt) (λ c. refl) (λ c κs. tt) (λ c. refl) (λ c κs. tt)
+    (λ c. refl) (λ c κs. tt) (λ c. refl) (λ c κs. tt) (λ c. refl) (λ c κs. tt) (λ c. refl) (λ c κs. tt) (λ c. refl) (λ c κs. tt)
+    (λ c. key-same HEADER _ 0 _ _ (c .before .before .match .keys1) (c .key-at .ensures))
+    (λ c. key-same HEADER _ 1 _ _ (c .before .before .match .keys2) (c .key-at2 .ensures))
+    (λ c. key-same HEADER _ 2 _ _ (c .before .before .match .keys3) (c .key-at3 .ensures))
+    (λ c. key-same HEADER _ 3 _ _ (c .before .before .match .keys4) (c .key-at4 .ensures))
+    (λ c. key-same HEADER _ 4 _ _ (c .before .before .match .keys5) (c .key-at5 .ensures))
+    (λ c. key-same HEADER _ 5 _ _ (c .before .before .match .keys6) (c .key-at6 .ensures))
+    (λ c. key-same HEADER _ 6 _ _ (c .before .before .match .keys7) (c .key-at7 .ensures))
+    (λ c. key-same HEADER _ 7 _ _ (c .before .before .match .keys8) (c .key-at8 .ensures))
+    (λ c. key-same HEADER _ 8 _ _ (c .before .before .match .keys9) (c .key-at9 .ensures))
     last)

@@ -1,25 +1,26 @@
 -- `table::import_key` compares a key of the table: each arm's byte string is the table's key of that number, and the last arm's
--- number is 40, since it is none of the others.
+-- number is 4, since it is none of the others.
 use mathlib.Core.Path.{refl}
 use native.Mathlib.Omega.{arith}
-use Rattle.keys.proofs.Keys.{key-same, none-from}
+use Rattle.keys.specs.Keys.{IMPORT}
+use Rattle.keys.proofs.Keys.{key-same, none-below}
 use Rattle.keys.proofs.table.import_key.Statement.{statement}
 use Rattle.keys.proofs.table.import_key.Tie as tie
 
 last : tie.Need-returns-5
 last c =
     let a = c .before .before .before .before in
-    let h = none-from (a .args .k) 36 4 (a .pre .0) (c .before .before .match .rest) in
-    key-same (a .args .k) 40 _ _ (omega arith) (c .key-at5 .ensures)
+    let h = none-below (a .args .k) 4 (c .before .before .match .rest) in
+    let u = a .pre in
+    key-same IMPORT (a .args .k) 4 _ _ (omega arith) (c .key-at5 .ensures)
 
 pub import-key-spec : {M : Type 1} → statement M
 import-key-spec =
     tie.close
     (tie.spec
-    (λ c. refl) (λ c κs. tt) (λ c. refl) (λ c κs. tt) (λ c. refl) (λ c κs. tt) (λ c. refl) (λ c κs. tt)
-    (λ c. refl) (λ c κs. tt)
-    (λ c. key-same _ 36 _ _ (c .before .before .match .keys1) (c .key-at .ensures))
-    (λ c. key-same _ 37 _ _ (c .before .before .match .keys2) (c .key-at2 .ensures))
-    (λ c. key-same _ 38 _ _ (c .before .before .match .keys3) (c .key-at3 .ensures))
-    (λ c. key-same _ 39 _ _ (c .before .before .match .keys4) (c .key-at4 .ensures))
+    (λ c. refl) (λ c κs. tt) (λ c. refl) (λ c κs. tt) (λ c. refl) (λ c κs. tt) (λ c. refl) (λ c κs. tt) (λ c. refl) (λ c κs. tt)
+    (λ c. key-same IMPORT _ 0 _ _ (c .before .before .match .keys1) (c .key-at .ensures))
+    (λ c. key-same IMPORT _ 1 _ _ (c .before .before .match .keys2) (c .key-at2 .ensures))
+    (λ c. key-same IMPORT _ 2 _ _ (c .before .before .match .keys3) (c .key-at3 .ensures))
+    (λ c. key-same IMPORT _ 3 _ _ (c .before .before .match .keys4) (c .key-at4 .ensures))
     last)

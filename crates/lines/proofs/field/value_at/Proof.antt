@@ -1,4 +1,4 @@
--- `field::value_at` reads the number behind a key, and behind key 23 also a minus alone.
+-- `field::value_at` reads the number behind a key, and behind `uol` also a minus alone.
 use mathlib.Core.Path.{_∙_, sym}
 use native.Mathlib.Omega.{arith}
 use borrow.Author.Needs.{needs}
@@ -21,7 +21,8 @@ returns-2 c =
 
 add-t8 : tie.Need-add-t8
 add-t8 c =
-    let a = c .before .before .before .before .before .before .before .args in
+    let start = c .before .before .before .before .before .before .before in
+    let a = start .args in
     omega (arith, byte-inside (a .s .now) (a .at) 45 (sym (c .before .byte-at .ensures) ∙ c .if2 .taken) (lit< tt))
 
 returns-3 : tie.Need-returns-3

@@ -1,0 +1,98 @@
+// What the intervals of an hour ask of the walk: check 6, and the stretch of kilowatts that each has to price.
+ghost use mathlib.Core.Path.{_≡_};
+ghost use mathlib.Core.Bool.{true};
+ghost use Rattle.exact.specs.Whole.{Within};
+ghost use Rattle.tariff.specs.Sheet.{aheadInRange, intervalInRange};
+ghost use Rattle.tariff.specs.Contributions.{capped};
+ghost use Rattle.tariff.specs.Reply.{clear};
+ghost use Rattle.tariff.specs.Hour.{form, range};
+ghost use Rattle.intervals.specs.Task.{idleTask, taskOf, asked, TasksOf};
+use crate::others;
+use crate::steps::Task;
+use crate::sums;
+use tariff::Check;
+use tariff::DayAhead;
+use tariff::Found;
+use tariff::Grains;
+use tariff::Hour;
+use tariff::Interval;
+use tariff::Kw;
+use tariff::Price;
+use tariff::Seconds;
+
+// Output above the schedule and its compensable overgeneration is not counted, where the schedule is above 0.
+pub fn capped_output(live: Kw, ae: Kw, co: Kw) -> Kw
+    requires { ⌜ Within 2000000 (live .0) × Within 2000000 (co .0) ⌝ }
+    ensures { λ r. ⌜ r .0 ≡ capped (live .0) (ae .0) (co .0) ⌝ }
+{
+    if units::below(Kw(0), live) {
+        units::kw_min(ae, sums::kw_plus(live, co))
+    } else {
+        ae
+    }
+}
+
+// Nothing to price and nothing to add: what a lagging interval asks, and one that a check stops.
+pub fn idle(stop: Found) -> Task
+    ensures { λ r. ⌜ r ≡ idleTask stop ⌝ }
+{
+    Task {
+        stop,
+        lower: false,
+        from: Kw(0),
+        limit: Kw(0),
+        pen: Price(0),
+        s: Seconds(0),
+        beside: Grains(0),
+        others: Grains(0),
+    }
+}
+
+// What an interval asks: nothing if it lags (25.4), else its derate, and then the stretch between D and its limit.
+pub fn task_of(a: DayAhead, v: Interval, place: usize) -> Task
+    requires { ⌜ (aheadInRange a ≡ true) × (intervalInRange v ≡ true) ⌝ }
+    ensures { λ r. ⌜ r ≡ taskOf a v place ⌝ }
+{
+    if limits::lags(v) {
+        return idle(Found::Nothing);
+    }
+    let q = derate::derate_of(a, v);
+    if q.exceeds {
+        return idle(Found::Fault(Check::Derate(place)));
+    }
+    let schedules = q.schedules;
+    let from = schedules[0];
+    let live = v.en;
+    let counted = capped_output(live, v.ae, v.co);
+    let limit = limits::limit_of(from, live, v.eop, counted);
+    let pen = v.pen;
+    let s = v.s;
+    Task {
+        stop: Found::Nothing,
+        lower: limits::is_lower(from, live),
+        from,
+        limit,
+        pen,
+        s,
+        beside: Grains(0),
+        others: others::others(a, v, schedules),
+    }
+}
+
+// What each interval asks, first to last. An excluded hour asks checks 6 and 7 of no interval, and each contributes nothing.
+pub fn tasks_of(h: Hour, excluded: bool) -> [Task; 30]
+    requires { ⌜ (form h ≡ clear) × (range h ≡ clear) ⌝ }
+    ensures { λ r. ⌜ TasksOf (asked h excluded) (h .n) r ⌝ }
+{
+    let mut tasks = [idle(Found::Nothing); 30];
+    if excluded {
+        return tasks;
+    }
+    let mut i: usize = 0;
+    while i < h.n {
+        let place = i + 1;
+        tasks[i] = task_of(h.ahead, h.iv[i], place);
+        i = place;
+    }
+    tasks
+}

@@ -1,0 +1,25 @@
+// What stands in front of a day's blocks.
+ghost use Rattle.ledger.specs.Day.{frontOf};
+ghost use Rattle.ledger.specs.Walk.{FrontRead};
+use tariff::Found;
+
+// A fault or none, a bit for each excluded hour, and the place of the first block.
+pub struct Front {
+    pub found: Found,
+    pub excluded: u32,
+    pub next: usize,
+}
+
+// Reads the front of a sheet, which is its header.
+pub fn read_front(sheet: &[u8]) -> Front
+    ensures { λ r. ⌜ FrontRead (now (sheet .entry)) (frontOf 24 (now (sheet .entry))) r ⌝ }
+{
+    let header = header::read_header(sheet);
+    let found = header.found;
+    let marks = header.marks;
+    Front {
+        found,
+        excluded: marks::excluded_hours(marks),
+        next: header.next,
+    }
+}
