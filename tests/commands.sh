@@ -10,9 +10,7 @@
 # and what failed; the status is 1 if anything failed.
 . "$(dirname -- "$0")/common.sh"
 
-[ $# -eq 3 ] || usage "commands.sh PATH-OF-HOUR PATH-OF-DAY PATH-OF-IMPORT"
-need "$@"
-work_in commands
+three_programs commands "$@"
 work=$(cd "$work" && pwd) || exit 2
 root=$(cd "$(dirname -- "$0")/.." && pwd) || exit 2
 page=$root/docs/answers.md

@@ -1,4 +1,4 @@
-# What faults.sh, samples.sh and trace.sh share: how they begin and end, how a
+# What the scripts of this folder share: how they begin and end, how a
 # program is run and judged, and what is counted. Each reads this file first.
 set -u
 LC_ALL=C
@@ -23,6 +23,16 @@ need() {
             exit 2
         fi
     done
+}
+
+# A script NAME.sh that is told the paths of the three programs: `three_programs NAME "$@"` gives them the names that the others use.
+three_programs() {
+    [ $# -eq 4 ] || usage "$1.sh PATH-OF-HOUR PATH-OF-DAY PATH-OF-IMPORT"
+    need "$2" "$3" "$4"
+    work_in "$1"
+    hour=$2
+    day=$3
+    import=$4
 }
 
 # A folder of this name for the script's files, as long as it runs: $work.

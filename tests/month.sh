@@ -11,9 +11,8 @@
 # what failed; the status is 1 if anything failed.
 . "$(dirname -- "$0")/common.sh"
 
-[ $# -eq 3 ] || usage "month.sh PATH-OF-HOUR PATH-OF-DAY PATH-OF-IMPORT"
-need "$@" setsid
-work_in month
+three_programs month "$@"
+need setsid
 work=$(cd "$work" && pwd) || exit 2
 root=$(cd "$(dirname -- "$0")/.." && pwd) || exit 2
 clone=$work/clone

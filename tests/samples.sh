@@ -17,12 +17,7 @@
 # passed and what failed; the status is 1 if anything failed.
 . "$(dirname -- "$0")/common.sh"
 
-[ $# -eq 3 ] || usage "samples.sh PATH-OF-HOUR PATH-OF-DAY PATH-OF-IMPORT"
-need "$@"
-work_in samples
-hour=$1
-day=$2
-import=$3
+three_programs samples "$@"
 root=$(dirname -- "$0")/..
 page=$root/docs/answers.md
 

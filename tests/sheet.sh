@@ -18,12 +18,7 @@
 # failed.
 . "$(dirname -- "$0")/common.sh"
 
-[ $# -eq 3 ] || usage "sheet.sh PATH-OF-HOUR PATH-OF-DAY PATH-OF-IMPORT"
-need "$@"
-work_in sheet
-hour=$1
-day=$2
-import=$3
+three_programs sheet "$@"
 root=$(dirname -- "$0")/..
 page=$root/docs/sheet.md
 
