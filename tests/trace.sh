@@ -118,9 +118,11 @@ passed=$((passed + $(comm -12 "$work/named" "$work/declared" | wc -l)))
 # --- The page is whole: what it has to name.
 : >"$work/all"
 
-# The theorems that a page states.
+# The theorems that a page states, also inside its modules. A page without any says nothing, so it is in the wrong list.
 theorems() {
-    sed -n "s|^pub \([^ ]*\) :.*|$1$tab\1|p" "$1" >>"$work/all"
+    sed -n "s|^ *pub \([^ ]*\) :.*|$1$tab\1|p" "$1" >"$work/stated"
+    [ -s "$work/stated" ] || fail "$1 states nothing"
+    cat "$work/stated" >>"$work/all"
 }
 
 for front in $fronts; do

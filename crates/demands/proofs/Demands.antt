@@ -94,7 +94,7 @@ day-answers = day-is.met
 pub import-answers : {M : Type 1} → import-day.statement M
 import-answers = import-is.met
 
--- No answer is longer than the row of 2,048 bytes that a program lends for it, so none is cut.
+-- No answer is longer than the page of 2,048 bytes that a program lends for it, so none is cut.
 pub no-answer-is-cut : (s : List ℕ) → (length (hourText s) ≤ LONGEST) × (length (dayText 24 s) ≤ LONGEST) × (length (importText 24 s) ≤ LONGEST)
 no-answer-is-cut s = (hour-fits s, day-fits 24 s (omega arith), import-fits 24 s)
 
