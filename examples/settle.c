@@ -4,7 +4,7 @@
 #include <stdio.h>
 
 int main(void) {
-    static uint8_t text[16384]; /* no good block is longer */
+    static uint8_t text[10640]; /* no good block is longer */
     FILE *file = fopen("samples/hour/sample.txt", "rb");
     if (file == NULL) return 1;
     size_t length = fread(text, 1, sizeof text, file);

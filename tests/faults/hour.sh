@@ -80,7 +80,7 @@ one_after_the_other() {
     then_the_example 1 "an empty line"
     # Short lines, whose empty line begins with the first or with the second
     # byte of a read; lines around what is kept of a block; and one far longer.
-    for letters in 1 2 3 4 16381 16382 16383 16384 16385 16386 20000; do
+    for letters in 1 2 3 4 10637 10638 10639 10640 10641 10642 20000; do
         { fill "$letters" x; printf '\n\n'; } >"$work/front"
         then_the_example 1 "a line of $letters letters"
         { fill "$letters" x; printf '\ny\n\n'; } >"$work/front"

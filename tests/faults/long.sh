@@ -52,8 +52,8 @@ long_header() {
 # --- Pieces as long as what is kept of one, and a little shorter or longer. No
 # good piece is as long. The lengths are those of the lines without the empty
 # line behind them.
-kept=16384
-lengths="16383 16384 16385 16386 16387"
+kept=10640
+lengths="10639 10640 10641 10642 10643"
 
 # The lines of piece $1, made so long: $2 bytes with the last LF. The last line
 # is too long, the first, or none but there are too many of them, the last one

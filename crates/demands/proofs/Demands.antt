@@ -5,7 +5,7 @@ use mathlib.Core.Path.{_≡_, sym, _∙_}
 use mathlib.Core.Bool.{Bool, false}
 use mathlib.Core.List.{List, [], _++_}
 use mathlib.Core.Logic.{_↔_}
-use Prim.Native.Nat.{ℕ, _+_, _<_, _≤_}
+use Prim.Native.Nat.{ℕ, _+_, _*_, _<_, _≤_}
 use native.Mathlib.Omega.{arith}
 use lib.IntN.{ℤ, pos}
 use lib.ListN.{length, take, getD}
@@ -108,10 +108,10 @@ what-is-kept-decides s = (kept-hour s, kept-day 24 s (omega arith), kept-import 
 pub hour-stops-at-the-empty-line : (s behind : List ℕ) → Closed s → hourText (s ++ behind) ≡ hourText s
 hour-stops-at-the-empty-line s behind c = same-hour (s ++ behind) s (behind-the-close s behind c)
 
--- A text that is taken in byte by byte leaves what is kept of it in a row of 409,680 bytes, in whatever parts the text comes.
+-- A text that is taken in byte by byte leaves what is kept of it in a row of 266,080 bytes, in whatever parts the text comes.
 pub the-row-holds-what-is-kept :
     (row s : List ℕ)
-    → 409679 ≤ length row
+    → 25 * (PIECE + 3) + 4 ≤ length row
     → take (afterAll row (atFirst 25) s .n) (storeAll row (atFirst 25) s) ≡ keptOf (atFirst 25) s
 the-row-holds-what-is-kept row s room = room-store row s 25 room
 

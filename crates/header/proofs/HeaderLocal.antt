@@ -64,6 +64,6 @@ module _ (hours : ℕ) (few : hours < 32) (s t : List ℕ) (N : ℕ) (agree : (i
         says = λ j l. says-local (lineIn layout j) (j * 48) (omega arith) (place-local layout j (j * 48) (omega arith) (omega arith));
       }
 
--- the first 16,384 bytes of a text, which are more than enough
+-- the first 10,640 bytes of a text, which are more than enough
 pub decided-alike : (hours : ℕ) → hours < 32 → (s : List ℕ) → Alike form1 hours (take PIECE s) s
 decided-alike hours few s = alike-local hours few (take PIECE s) s PIECE (λ i h. getD-take PIECE s i 256 h) form1 (omega arith)

@@ -1,4 +1,4 @@
--- Two texts that share the lines of an import's block: it is read as the same. So it is decided by the first 16,384 bytes, however long its
+-- Two texts that share the lines of an import's block: it is read as the same. So it is decided by the first 10,640 bytes, however long its
 -- lines are, and by its first piece: what stands behind its empty line is not read, and the end of the text closes it as the empty line does.
 use mathlib.Core.Path.{_≡_, refl, ap}
 use mathlib.Core.List.{List, [], _∷_, _++_}

@@ -188,13 +188,13 @@ behind-the-close = piece-decides
 pub the-end-closes : (front behind : List ℕ) → importBlockAt (front ++ (10 ∷ 10 ∷ behind)) 0 ≡ importBlockAt (front ++ (10 ∷ [])) 0
 the-end-closes = closed-or-ended
 
--- A block is decided by its first 16,384 bytes: a program that reads no more of a block of any length has its exact answer.
+-- A block is decided by its first 10,640 bytes: a program that reads no more of a block of any length has its exact answer.
 pub first-bytes-decide : (s : List ℕ) → importBlockAt (take PIECE s) 0 ≡ importBlockAt s 0
 first-bytes-decide = decided
 
 -- ---- bounded memory
 
--- An import is settled alike from what is kept of its text, of any length: the first two lines and each block up to its first 16,384 bytes
+-- An import is settled alike from what is kept of its text, of any length: the first two lines and each block up to its first 10,640 bytes
 -- and its empty line, and a byte of what follows.
 pub a-kept-import-is-settled-alike : (hours : ℕ) (s : List ℕ) → importReply hours (keptOf (atFirst (suc hours)) s) ≡ importReply hours s
 a-kept-import-is-settled-alike hours s = go (headFault s) refl

@@ -1,4 +1,4 @@
--- The first two lines of an import are decided by their first piece, and by their first 16,384 bytes, whether they are refused or not.
+-- The first two lines of an import are decided by their first piece, and by their first 10,640 bytes, whether they are refused or not.
 use mathlib.Core.Path.{_≡_, refl, sym, _∙_, ap}
 use mathlib.Core.Bool.{true, false≢true, _&&_}
 use mathlib.Core.List.{List}

@@ -33,10 +33,10 @@ parts (x ∷ a) b store i =
     rw (p .0, p .1, q .0, q .1) (parts a b (placed store (i .n) (kept i x)) (after i x)))
     (λ e. rw e (no-room store i b (leb-false (i .n + 3) (length store) e)))
 
--- ---- a store of 16,387 bytes for each piece, and four, has room for all that is kept
+-- ---- a store of 10,643 bytes for each piece, and four, has room for all that is kept
 
 record Fits (store : List ℕ) (i : Intake) : Type 0 where
-  total : i .n + i .left * 16387 + 4 ≤ length store + i .run
+  total : i .n + i .left * (PIECE + 3) + 4 ≤ length store + i .run
   enough : i .run ≤ PIECE
   last : i .left ≡ 0 → i .run ≤ 1
 
@@ -80,7 +80,7 @@ room-from (b ∷ t) store i f =
     let g : take (after i b .n) next ≡ take (i .n) store ++ k = rw c (take-placed store k (i .n) (omega arith)) in
     rw (m .0, m .1, e) (h .0, h .1 ∙ ap (λ (l : List ℕ). l ++ rest) g ∙ append-assoc (take (i .n) store) k rest)
 
-module _ (store s : List ℕ) (pieces : ℕ) (long : pieces * 16387 + 4 ≤ length store) where
+module _ (store s : List ℕ) (pieces : ℕ) (long : pieces * (PIECE + 3) + 4 ≤ length store) where
   begun : Fits store (atFirst pieces)
   begun = record { total = omega arith; enough = omega arith; last = λ z. omega arith }
 
@@ -153,7 +153,7 @@ rests (suc k) pieces s h =
     let e : pieces - k ≡ suc (pieces - suc k) = omega arith in
     ap behind (rw (rests k pieces s (omega arith), e)) ∙ next-rest (pieces - suc k) (restAfter k s)
 
--- ---- the first piece as it was, or its first 16,384 bytes
+-- ---- the first piece as it was, or its first 10,640 bytes
 
 pub data FirstKept (got text : List ℕ) : Type 0 where
   short : firstPiece got ≡ firstPiece text → FirstKept got text

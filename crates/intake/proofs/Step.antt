@@ -7,7 +7,7 @@ use native.Mathlib.Nat.{add-zero}
 use native.Mathlib.Omega.{arith}
 use borrow.Author.Tests.{eq-eqb, ne-eqb, lt-ltb, le-ltb, eqb-true, eqb-false, ltb-true, ltb-false}
 use lib.Dec.{eqb, ltb}
-use lib.ListN.{length, take}
+use lib.ListN.{length, take, drop}
 use lib.Seq.{sets, sets-eq}
 use Rattle.exact.proofs.Parts.{by-test}
 use Rattle.lines.specs.Pieces.{PIECE}
@@ -28,6 +28,10 @@ pub data Step (i : Intake) (b : ℕ) : List ℕ → Intake → Type 0 where
       → Step i b [] (record { n = i .n + 0; run = i .run; start = eqb b 10; left = i .left })
   cut : (i .left ≡ 0 → ⊥) → PIECE ≤ i .run → closesPiece i b ≡ true
       → Step i b (120 ∷ 10 ∷ 10 ∷ []) (record { n = i .n + 3; run = 0; start = true; left = i .left - 1 })
+
+-- bytes stored one by one are placed
+pub sets-placed : (k store : List ℕ) (n : ℕ) → n + length k ≤ length store → sets store n k ≡ placed store n k
+sets-placed k store n h = sets-eq k store n h ∙ append-assoc (take n store) k (drop (n + length k) store)
 
 pub add-two : (n : ℕ) → n + 2 ≡ suc (suc n)
 add-two n = omega arith
@@ -91,7 +95,7 @@ module _ (i : Intake) (b : ℕ) where
         let e = told s in
         let f = few in
         let g : length (kept i b) ≡ length k = ap length (e .1) in
-        (sym (e .0), rw (e .1) (sets-eq k store (i .n) (omega arith) ∙ append-assoc (take (i .n) store) k _))
+        (sym (e .0), rw (e .1) (sets-placed k store (i .n) (omega arith)))
 
     -- where nothing is kept, no store is made
     pub unmoved : {run left : ℕ} {start : Bool} → Step i b [] (record { n = i .n + 0; run = run; start = start; left = left })

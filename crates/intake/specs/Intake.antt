@@ -1,4 +1,4 @@
--- A text of any length in bounded memory: of each piece, cut at the empty lines, a program keeps the first 16,384 bytes, which decide it,
+-- A text of any length in bounded memory: of each piece, cut at the empty lines, a program keeps the first 10,640 bytes, which decide it,
 -- and its empty line; of what follows the last piece, one byte.
 use mathlib.Core.Path.{_≡_}
 use mathlib.Core.Bool.{Bool, true, _&&_}

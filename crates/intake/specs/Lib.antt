@@ -1,2 +1,3 @@
 -- What a program keeps of a text of any length.
 pub mod Intake
+pub mod Stretch

@@ -8,6 +8,8 @@ ghost use Rattle.lines.specs.Pieces.{PIECE};
 ghost use Rattle.intake.specs.Intake.{after, kept, placed, afterAll, storeAll, atFirst, TakenIn};
 use libc::STDIN_FILENO;
 
+mod stretch;
+
 // A day is a header and 24 blocks. Of each piece at most lines::PIECE bytes and three more are kept, and a byte of what follows.
 pub const PIECES: usize = 25;
 
@@ -127,7 +129,7 @@ fn next(store: &mut [u8], i: Intake, b: u8) -> Intake
     }
 }
 
-// Takes in what was read of a text, as far as the store has room.
+// Takes in what was read of a text, as far as the store has room: a stretch of a line at once, any other byte by itself.
 pub fn keep(store: &mut [u8], i: Intake, bytes: &[u8]) -> Intake
     ensures state { λ r. ⌜ r ≡ afterAll (now (store .entry)) i (now (bytes .entry)) ⌝ }
     ensures store { λ r. ⌜ now (store .exit) ≡ storeAll (now (store .entry)) i (now (bytes .entry)) ⌝ }
@@ -143,9 +145,16 @@ pub fn keep(store: &mut [u8], i: Intake, bytes: &[u8]) -> Intake
         if last < n {
             return state;
         }
-        let b = bytes[at];
-        state = next(store, state, b);
-        at += 1;
+        let m = stretch::stretch_of(state, last - n + 1, &bytes[at..]);
+        if m == 0 {
+            let b = bytes[at];
+            state = next(store, state, b);
+            at += 1;
+        } else {
+            let end = at + m;
+            state = stretch::take_stretch(store, state, &bytes[at..end]);
+            at = end;
+        }
     }
     state
 }

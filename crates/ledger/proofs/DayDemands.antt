@@ -232,7 +232,7 @@ what-follows-withholds-the-total f b t e = ap (λ (l : List ℕ). totalOf (dayRe
 
 -- ---- bounded memory
 
--- A day is settled alike from what is kept of its sheet, of any length: the header and each block up to its first 16,384 bytes and its
+-- A day is settled alike from what is kept of its sheet, of any length: the header and each block up to its first 10,640 bytes and its
 -- empty line, and a byte of what follows.
 pub a-kept-sheet-is-settled-alike :
     (hours : ℕ) (s : List ℕ)

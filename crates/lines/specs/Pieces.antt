@@ -33,7 +33,7 @@ piece k s = firstPiece (restAfter k s)
 
 -- of a piece so many bytes decide: a header, an hour block and an import's block are judged alike whatever follows them
 abbrev pub PIECE : ℕ
-PIECE = 16384
+PIECE = 10640
 
 -- whether any byte stands there
 abbrev pub isSome : List ℕ → Bool

@@ -10,7 +10,7 @@ use text::Next;
 mod field;
 
 // Of a piece so many bytes decide, as specs/Pieces.antt has it.
-pub const PIECE: usize = 16384;
+pub const PIECE: usize = 10640;
 
 // The values of a line's fields, and the place after them.
 pub struct Fields {

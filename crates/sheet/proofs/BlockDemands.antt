@@ -138,6 +138,6 @@ reads-back = text-read
 pub reads-again : (s : List ℕ) (h : Hour) → blockOf s ≡ read h → range h ≡ clear → blockOf (textOf h) ≡ read h
 reads-again = read-again
 
--- A block is decided by its first 16,384 bytes: a program that reads no more of a block of any length has its exact answer.
+-- A block is decided by its first 10,640 bytes: a program that reads no more of a block of any length has its exact answer.
 pub first-bytes-decide : (s : List ℕ) → blockOf (take PIECE s) ≡ blockOf s
 first-bytes-decide = decided

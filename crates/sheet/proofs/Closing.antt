@@ -17,7 +17,7 @@ use Rattle.lines.proofs.Agree.{first-lines}
 use Rattle.lines.proofs.BlockEnds as ends
 use Rattle.sheet.proofs.BlockShared.{block-shared}
 
--- a block is decided by its first 16,384 bytes, however long its lines are
+-- a block is decided by its first 10,640 bytes, however long its lines are
 pub decided : (s : List ℕ) → blockOf (take PIECE s) ≡ blockOf s
 unfolding blockOf
 decided s = block-shared (first-lines (take PIECE s) s PIECE (λ i h. getD-take PIECE s i 256 h)) 10626 0 (omega arith) (omega arith)
