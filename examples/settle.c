@@ -11,7 +11,7 @@ int main(void) {
     fclose(file);
     int64_t row[CULVERTJIG_ROW], grains = 0, cents = 0;
     uint64_t place = 0;
-    uint64_t refused = culvertjig_block(text, length, false, -1, row, CULVERTJIG_ROW, &place, &grains, &cents);
+    uint64_t refused = culvertjig_block(text, length, false, -1, 24, row, CULVERTJIG_ROW, &place, &grains, &cents);
     if (refused == 0) printf("grains=%" PRId64 " pay=%" PRId64 ", interval 1: %" PRId64 "\n", grains, cents, row[0]);
     else printf("refused=%" PRIu64 " at=%" PRIu64 "\n", refused, place);
     return 0;

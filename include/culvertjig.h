@@ -23,7 +23,9 @@ extern "C" {
  *
  *   block, block_length   the bytes of the block
  *   excluded              whether the hour is excluded by its day's marks: it is checked all the same, and pays 0
- *   expected              the hour that the block has to say, 0 to 23; below 0: any
+ *   expected              the hour that the block has to say, from 0; below 0: any, and the block may say 0 to 24
+ *   hours                 how many hours the block's day has: any number is taken, exactly 25 lets the block say hour 24, and every other is as
+ *                         24; not read if any hour will do
  *   row, row_length       the contributions of the intervals, in grains; CULVERTJIG_ROW places are always enough
  *   place                 of a refusal: a line of the block (checks 1 to 4), an interval, counted from 1 (6 and 7), or 0 (5 and 8)
  *   grains                the hour's sum, which may be below 0; a grain is 1/3,600,000 cent
@@ -36,8 +38,8 @@ extern "C" {
  * length belong together, no pointer is null, what is lent for writing lies apart from everything else that is lent, and nobody else
  * writes to it during the call.
  */
-uint64_t culvertjig_block(const uint8_t *block, size_t block_length, bool excluded, int64_t expected, int64_t *row, size_t row_length,
-                          uint64_t *place, int64_t *grains, int64_t *cents);
+uint64_t culvertjig_block(const uint8_t *block, size_t block_length, bool excluded, int64_t expected, uint64_t hours, int64_t *row,
+                          size_t row_length, uint64_t *place, int64_t *grains, int64_t *cents);
 
 #ifdef __cplusplus
 }

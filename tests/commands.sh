@@ -55,43 +55,54 @@ done
 excluding=$(grep -l 'rtc' "$work"/run.*)
 [ -n "$excluding" ] || fail "the page has no command for an excluded hour"
 
-# The sample's header with digit $2 of its row $1, from 0, as $3, rtc as $4, and
-# all else such that every hour is eligible.
+# A day of $5 hours that pays in each, but for what its header says: digit $2 of its row $1, from 0, is $3, and rtc $4. Form 1 has 24 hours.
 marked() {
-    awk -F= -v row="$1" -v at="$2" -v digit="$3" -v rtc="$4" '
-        $1 == "rtc" { print "rtc=" rtc; next }
-        $1 ~ /^(cat|x[1-6])$/ {
-            all = $1 == "cat" ? "111111111111111111111111" : "000000000000000000000000"
-            if ($1 == row) all = substr(all, 1, at) digit substr(all, at + 2)
-            print $1 "=" all
-            next
+    awk -v row="$1" -v at="$2" -v digit="$3" -v rtc="$4" -v hours="$5" '
+        function marks(key, all, i) {
+            for (i = 0; i < hours; i++) all = all (key == row && i == at ? digit : key == "cat")
+            print key "=" all
         }
-        { print }' samples/day/gap-last.txt | awk '$0 == "" && before == "" { next } { before = $0; print }'
+        BEGIN {
+            print hours == 24 ? "form=1" : "form=2\nhours=" hours
+            print "unit=4711\nrtc=" rtc
+            marks("cat")
+            for (i = 1; i <= 6; i++) marks("x" i)
+        }
+        { block = block $0 "\n" }
+        END { for (i = 0; i < hours; i++) { sub(/hour=[0-9]*/, "hour=" i, block); printf "\n%s", block } }' samples/hour/sample.txt
 }
 
-# The hours that the command excludes in $work/sheet, and those that pay 0.
+# The hours of $2 that the command excludes in $work/sheet, and those that pay 0.
 same_hours() {
     h=0
-    while [ "$h" -lt 24 ]; do
+    while [ "$h" -lt "$2" ]; do
         sed "s/-v hour=[0-9]*/-v hour=$h/; s|samples/day/mixed.txt|$work/sheet|" "$excluding" >"$work/command"
         [ -z "$(sh "$work/command")" ] || echo "hour=$h pay=0"
         h=$((h + 1))
     done >"$work/want"
     day <"$work/sheet" | grep ' pay=0$' >"$work/got"
-    if cmp -s "$work/got" "$work/want"; then pass; else fail "$1: $(differ "$work/got" "$work/want")"; fi
+    if cmp -s "$work/got" "$work/want"; then pass; else fail "$2 hours, $1: $(differ "$work/got" "$work/want")"; fi
 }
 
 for row in cat x1 x2 x3 x4 x5 x6; do
     for at in 0 1 2 11 21 22 23; do
         digit=1
         [ "$row" = cat ] && digit=0
-        marked "$row" "$at" "$digit" 1 >"$work/sheet"
-        same_hours "$row at hour $at"
+        marked "$row" "$at" "$digit" 1 24 >"$work/sheet"
+        same_hours "$row at hour $at" 24
     done
 done
 for row in x4 x5 x6; do
-    marked "$row" 12 1 0 >"$work/sheet"
-    same_hours "$row at hour 12 with rtc=0"
+    marked "$row" 12 1 0 24 >"$work/sheet"
+    same_hours "$row at hour 12 with rtc=0" 24
+done
+for hours in 23 25; do
+    for at in 0 $((hours - 3)) $((hours - 2)) $((hours - 1)); do
+        for row in x3 x4; do
+            marked "$row" "$at" 1 0 "$hours" >"$work/sheet"
+            same_hours "$row at hour $at" "$hours"
+        done
+    done
 done
 
 finish

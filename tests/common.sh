@@ -91,3 +91,17 @@ answered() {
         pass
     fi
 }
+
+# The answer in the file $2 begins, goes on and ends as the file $1 does, where `...` stands for any lines.
+is_answer() {
+    awk 'NR == FNR { want[++n] = $0; next } { got[++m] = $0 }
+        END {
+            i = 1
+            for (j = 1; j <= m; j++) {
+                if (want[i] == "..." && got[j] == want[i + 1]) i++
+                if (want[i] == got[j]) i++
+                else if (want[i] != "...") exit 1
+            }
+            exit i != n + 1
+        }' "$1" "$2"
+}

@@ -1,7 +1,7 @@
 #!/bin/sh
 # Faults of the world around the programs: input that ends anywhere, that comes
 # slowly, that stays open, never ends or cannot be read, output that is closed
-# or full, arguments, and texts of 50 MB, in little memory.
+# or full, arguments, and texts of 50 MB and more, in little memory.
 #
 #   sh faults.sh PATH-OF-HOUR PATH-OF-DAY PATH-OF-IMPORT
 #

@@ -9,7 +9,8 @@
 #   <!-- sample: NAME [H] --> stands before a quoted block. In it `L | text` is
 #       line L of the sample's first block, or of hour H's (`...` leaves out the
 #       rest), a bar alone is a remark, and the other lines are the printed
-#       answer, each with a remark of ours behind two spaces.
+#       answer, each with a remark of ours behind two spaces; `...` alone
+#       leaves out lines of it.
 #   <!-- column: NAME --> stands before a table whose first cells are the answer.
 #   A table row that begins with a NAME has the answer's last line in its second
 #   cell, and in "NAME prints ANSWER" that line follows.
@@ -127,7 +128,7 @@ while read -r n kind name block; do
             last:) tail -n 1 "$said" >"$work/want" ;;
             *) cp "$said" "$work/want" ;;
         esac
-        if cmp -s "$work/answer.$n" "$work/want"; then
+        if is_answer "$work/answer.$n" "$work/want"; then
             pass
         else
             fail "the page: $name, $(differ "$work/answer.$n" "$work/want")"

@@ -8,12 +8,13 @@
 # What the page says of itself, each before a fenced block or a table:
 #   <!-- listing: NAME -->                    a text, or a part of one
 #   <!-- answer: PROGRAM NAME [NAME] -->      what is printed for it: for the
-#       first name alone, or for it and 24 times the second, saying hours 0 to
-#       23. `...` stands for any lines.
-#   <!-- keys: NAME lines A to B, keys K.. -->   the rows are these keys of the
-#       reader, and stand on these lines of the listing. K is a kind of line, for
-#       all of its keys in their order, or one key of it, KIND.N; K=L is a row for
-#       both.
+#       first name alone, or for it and the second for each hour of its day.
+#       `...` stands for any lines.
+#   <!-- keys: NAME.. lines A to B, keys K.. -->   the next rows are these keys of
+#       the reader, and stand on these lines of each listing. K is a kind of line,
+#       for all of its keys in their order, or one key of it, KIND.N; K=L is a row
+#       for both.
+# What it says of the count of hours is tried at the end, for each of the three.
 # The last line counts what passed and what failed; the status is 1 if anything
 # failed.
 . "$(dirname -- "$0")/common.sh"
@@ -22,8 +23,9 @@ three_programs sheet "$@"
 root=$(dirname -- "$0")/..
 page=$root/docs/sheet.md
 
-# --- The page in pieces: listing.NAME, answer.N with its words in answers, and
-# rows: the table's number, listing, first and last line, key, unit, range.
+# --- The page in pieces: listing.NAME; answer.N with its words in answers; rows
+# with key, unit and range; and kinds with what the marks say of them: a key or a
+# kind, and the listings, A+B, with the first and last line.
 : >"$work/answers"
 : >"$work/rows"
 : >"$work/kinds"
@@ -31,8 +33,11 @@ awk -v dir="$work" '
 /^<!-- listing: / { file = dir "/listing." $3; next }
 /^<!-- answer: / { file = dir "/answer." ++n; print n, $3, $4, $5 == "-->" ? "" : $5 >(dir "/answers"); next }
 /^<!-- keys: / {
-    name = $3; from = $5; to = $7 + 0; table = 1
-    for (i = 9; $i != "-->"; i++) print $i >(dir "/kinds")
+    table = 1
+    names = $3
+    for (i = 4; $i != "lines"; i++) names = names "+" $i
+    lines = $(i + 1) " " $(i + 3) + 0
+    for (i += 5; $i != "-->"; i++) print $i, names, lines >(dir "/kinds")
     next
 }
 /^```/ { inside = file != "" && !inside; if (inside) printf "" >file; else { if (file != "") close(file); file = "" } next }
@@ -40,7 +45,7 @@ inside { print >file; next }
 table && /^\| `/ {
     gsub(/`/, "")
     split($0, cells, / *\| */)
-    print name, from, to, cells[2] "\t" cells[4] "\t" cells[5] >(dir "/rows")
+    print cells[2] "\t" cells[4] "\t" cells[5] >(dir "/rows")
     next
 }
 table && !/^\|/ { table = 0 }' "$page"
@@ -48,11 +53,17 @@ table && !/^\|/ { table = 0 }' "$page"
 
 # --- Texts of the listings.
 
-# A part, and 24 blocks like the other one, in $work/text.
+# The hours of the day that a part begins.
+hours_of() {
+    said=$(sed -n '/^$/q; s/^\(.* \)\{0,1\}hours=\(2[345]\)$/\2/p' "$1")
+    echo "${said:-24}"
+}
+
+# A part, and for each hour of its day, or for as many as are told, a block like the other one.
 with_blocks() {
     cat "$1"
-    awk '{ line[NR] = $0 } END {
-        for (hour = 0; hour < 24; hour++) {
+    awk -v hours="${3:-$(hours_of "$1")}" '{ line[NR] = $0 } END {
+        for (hour = 0; hour < hours; hour++) {
             if (hour) print ""
             for (i = 1; i <= NR; i++) { if (i == 1) sub(/^hour=[^ ]*/, "hour=" hour, line[i]); print line[i] }
         }
@@ -69,20 +80,6 @@ run() {
     within 20 "$program" <"$work/text" >"$work/got" 2>"$work/err"
 }
 
-# The answer in $work/got begins, goes on and ends as the file $1 does.
-is_answer() {
-    awk 'NR == FNR { want[++n] = $0; next } { got[++m] = $0 }
-        END {
-            i = 1
-            for (j = 1; j <= m; j++) {
-                if (want[i] == "..." && got[j] == want[i + 1]) i++
-                if (want[i] == got[j]) i++
-                else if (want[i] != "...") exit 1
-            }
-            exit i != n + 1
-        }' "$1" "$work/got"
-}
-
 while read -r n program first blocks; do
     if [ -n "$blocks" ]; then
         with_blocks "$work/listing.$first" "$work/listing.$blocks" >"$work/text"
@@ -90,7 +87,7 @@ while read -r n program first blocks; do
         cp "$work/listing.$first" "$work/text"
     fi
     run "$program"
-    if is_answer "$work/answer.$n"; then
+    if is_answer "$work/answer.$n" "$work/got"; then
         pass
     else
         fail "$program, $first $blocks: $(differ "$work/got" "$work/answer.$n")"
@@ -102,10 +99,11 @@ awk '/^pub fn [a-z]*_key\(/ { kind = $3; sub(/_key\(.*/, "", kind); n = 0 }
     /=> text::key_at\(/ { key = $0; sub(/.*b" */, "", key); sub(/=".*/, "", key); print kind "." n++, key }' \
     "$root/crates/keys/src/table.rt" >"$work/reader"
 [ -s "$work/reader" ] || fail "the reader's table of keys was not found in crates/keys/src/table.rt"
-awk 'NR == FNR { kind = $1; sub(/\..*/, "", kind); all[kind] = all[kind] $1 "\n"; next }
-    { if ($1 in all) printf "%s", all[$1]; else print $1 }' "$work/reader" "$work/kinds" >"$work/numbers"
-paste -d ' ' "$work/numbers" "$work/rows" | awk '{ n = split($1, k, "="); for (i = 1; i <= n; i++) print k[i], $5 }' |
-    sort >"$work/keys"
+awk 'NR == FNR { kind = $1; sub(/\..*/, "", kind); all[kind] = all[kind] " " $1; next }
+    { n = split($1 in all ? all[$1] : $1, k, " "); for (i = 1; i <= n; i++) print k[i], $2, $3, $4 }' \
+    "$work/reader" "$work/kinds" >"$work/numbers"
+paste -d ' ' "$work/numbers" "$work/rows" >"$work/table"
+awk '{ n = split($1, k, "="); for (i = 1; i <= n; i++) print k[i], $5 }' "$work/table" | sort >"$work/keys"
 sort -o "$work/reader" "$work/reader"
 if cmp -s "$work/reader" "$work/keys"; then
     pass
@@ -136,10 +134,10 @@ changed() {
 refusal_of() {
     changed "$@" >"$work/changed"
     case $1 in
-        header) with_blocks "$work/changed" "$work/listing.block" >"$work/text" && run day ;;
+        form-*) with_blocks "$work/changed" "$work/listing.block" >"$work/text" && run day ;;
         block) cp "$work/changed" "$work/text" && run hour ;;
-        import) with_blocks "$work/changed" "$work/listing.curtailed" >"$work/text" && run import ;;
-        curtailed) { cat "$work/listing.import" "$work/changed"; echo; cat "$work/rest"; } >"$work/text" && run import ;;
+        import*) with_blocks "$work/changed" "$work/listing.curtailed" >"$work/text" && run import ;;
+        curtailed) { cat "$work/listing.import-25" "$work/changed"; echo; cat "$work/rest"; } >"$work/text" && run import ;;
     esac
     sed -n "s/^refused=\([0-9]*\) .*at=$2\$/\1/p; 1q" "$work/got" | grep . || echo 0
 }
@@ -173,43 +171,55 @@ number_row() {
     fi
 }
 
-# 24 digits of the list $4, at hour 5 and elsewhere 0.
+# A digit of the list $4 for each hour: at hour 5 and at the last each of the ten, and elsewhere 0.
 digits_row() {
+    zeros=$(printf "%0$(($(hours_of "$work/listing.$1") - 1))d" 0)
     for digit in 0 1 2 3 4 5 6 7 8 9; do
         case "$4," in
             *" $digit,"*) wanted=$admitted ;;
             *) wanted=2 ;;
         esac
-        judged "$1" "$2" "$3" "00000${digit}000000000000000000" "$wanted"
+        judged "$1" "$2" "$3" "00000$digit${zeros#00000}" "$wanted"
+        judged "$1" "$2" "$3" "$zeros$digit" "$wanted"
     done
-    judged "$1" "$2" "$3" 00000000000000000000000 1
-    judged "$1" "$2" "$3" 0000000000000000000000000 1
+    judged "$1" "$2" "$3" "$zeros" 1
+    judged "$1" "$2" "$3" "${zeros}00" 1
 }
 
 # What may be said of a line whose numbers are in their ranges.
 admitted="0 3 4 5 6 7"
-with_blocks /dev/null "$work/listing.curtailed" | sed '1,/^$/d' >"$work/rest"
-tab=$(printf '\t')
-while IFS=$tab read -r place unit range; do
-    # shellcheck disable=SC2086
-    set -- $place
+with_blocks /dev/null "$work/listing.curtailed" 25 | sed '1,/^$/d' >"$work/rest"
+
+# Tries a row of the page, with key $4, unit $5 and range $6, on the lines $2 to $3 of the listing $1.
+try_row() {
     tried=0
     at=$2
     while [ "$at" -le "$3" ]; do
         if sed -n "${at}p" "$work/listing.$1" | tr ' ' '\n' | grep -q "^$4="; then
             tried=1
             may_miss=no
-            case $unit in *' or -') may_miss=yes ;; esac
-            case $range in
-                '24 digits of '*) digits_row "$1" "$at" "$4" "${range#24 digits of}" ;;
-                *' to '*) number_row "$1" "$at" "$4" "${range% to *}" "${range#* to }" "$may_miss" ;;
-                *' or '*) number_row "$1" "$at" "$4" "${range% or *}" "${range#* or }" "$may_miss" ;;
-                *) number_row "$1" "$at" "$4" "$range" "$range" "$may_miss" ;;
+            case $5 in *' or -') may_miss=yes ;; esac
+            case $6 in
+                'digits of '*) digits_row "$1" "$at" "$4" "${6#digits of}" ;;
+                *' to '*) number_row "$1" "$at" "$4" "${6% to *}" "${6#* to }" "$may_miss" ;;
+                *' or '*) number_row "$1" "$at" "$4" "${6% or *}" "${6#* or }" "$may_miss" ;;
+                *) number_row "$1" "$at" "$4" "$6" "$6" "$may_miss" ;;
             esac
         fi
         at=$((at + 1))
     done
     [ "$tried" -eq 1 ] || fail "$1: no line $2 to $3 has the key $4"
-done <"$work/rows"
+}
+
+tab=$(printf '\t')
+while IFS=$tab read -r place unit range; do
+    # shellcheck disable=SC2086
+    set -- $place
+    for listing in $(echo "$2" | tr + ' '); do
+        try_row "$listing" "$3" "$4" "$5" "$unit" "$range"
+    done
+done <"$work/table"
+
+. "$root/tests/sheet/counts.sh"
 
 finish

@@ -117,14 +117,18 @@ fill() {
     fi
 }
 
-# 50 MB of this byte.
+# So many MB of this byte.
+megabytes() {
+    dd if=/dev/zero bs=1048576 count="$1" 2>/dev/null | tr '\0' "$2"
+}
+
 fifty() {
-    dd if=/dev/zero bs=1048576 count=50 2>/dev/null | tr '\0' "$1"
+    megabytes 50 "$1"
 }
 
 # 5 MB of it: enough for `hour`, which reads a byte or two at a time.
 five() {
-    dd if=/dev/zero bs=1048576 count=5 2>/dev/null | tr '\0' "$1"
+    megabytes 5 "$1"
 }
 
 # 50 MB of this line.

@@ -15,3 +15,5 @@ withheld() {
 }
 
 sheet_cases "$here/../samples/day/paid.txt"
+counted_cases "$here/../samples/day/paid.txt"
+long_rows

@@ -10,6 +10,14 @@ cp "$work/paid" "$work/want"
 run 20 <"$work/block"
 answered "the example"
 
+# --- The hour that only the longest day has, and the one behind it.
+sed 's/^hour=[0-9]*/hour=24/' "$work/paid" >"$work/want"
+sed '1s/^hour=[0-9]*/hour=24/' "$work/block" | run 20
+answered "hour 24"
+echo "refused=2 at=1" >"$work/want"
+sed '1s/^hour=[0-9]*/hour=25/' "$work/block" | run 20
+answered "hour 25"
+
 # --- Input that ends anywhere.
 n=0
 while [ "$n" -le "$size" ]; do

@@ -11,3 +11,4 @@ withheld() {
 }
 
 sheet_cases "$here/../samples/import/paid.txt"
+counted_cases "$here/../samples/import/paid.txt"

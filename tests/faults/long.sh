@@ -93,11 +93,11 @@ edge() {
     try "$like: a block, and an empty one" "before.$middle" long lf lf "after.$middle"
     try "$like: a block and the end" "before.$middle" long
     try "$like: a block without its last LF" "before.$middle" open
-    lengthen 24 "$1" "$2"
-    try "$like: block 24" before.24 long
-    try "$like: block 24 without its last LF" before.24 open
-    try "$like: block 24, closed" before.24 long lf
-    try "$like: block 24 and an LF behind it" before.24 long lf lf
+    lengthen "$hours" "$1" "$2"
+    try "$like: the last block" "before.$hours" long
+    try "$like: the last block without its last LF" "before.$hours" open
+    try "$like: the last block, closed" "before.$hours" long lf
+    try "$like: the last block and an LF behind it" "before.$hours" long lf lf
 }
 
 edges() {
@@ -119,16 +119,74 @@ crowded() {
         cp "$work/long" "$work/header"
         lengthen "$middle" "$length" last
         n=1
-        while [ "$n" -lt 24 ]; do
+        while [ "$n" -lt "$hours" ]; do
             cat "$work/long" "$work/lf"
             n=$((n + 1))
         done >"$work/blocks"
-        try "23 blocks of $length bytes, and a good one" before.1 blocks good.24
-        try "24 blocks of $length bytes, and an LF" before.1 blocks long lf lf
-        try "25 pieces of $length bytes, and an LF" header lf blocks long lf lf
+        try "blocks of $length bytes, the last one good" before.1 blocks "good.$hours"
+        try "blocks of $length bytes, and an LF" before.1 blocks long lf lf
+        try "pieces of $length bytes, and an LF" header lf blocks long lf lf
     done
     if [ "$frugal" = yes ]; then
         { (cd "$work" && cat header lf blocks long lf); yes; } 2>/dev/null | run 10
-        answered "25 pieces of $length bytes, and no end"
+        answered "pieces of $length bytes, and no end"
     fi
+}
+
+# --- Rows of marks of any length, in a sheet that says its hours: cut_up has its
+# header in $work/good.0. Where no day has so many hours a row may have any
+# number of digits, and what is wrong behind them still decides.
+
+# The header's lines under $1 hours, in $work/header.
+under() {
+    sed "2s/.*/hours=$1/" "$work/good.0" >"$work/header"
+}
+
+# The lines of $work/header, with standard input for the digits of row $1, and
+# the bytes $2 behind them.
+with_row() {
+    sed "/^$1=/,\$d" "$work/header"
+    printf '%s=' "$1"
+    cat
+    printf '%s\n' "$2"
+    sed "1,/^$1=/d" "$work/header"
+}
+
+# How a row of $1 MB under 22 hours is refused: by the count, or for a letter at
+# its far end.
+long_row() {
+    under 22
+    echo "refused=2 at=2" >"$work/want"
+    megabytes "$1" 0 | with_row x3 '' | in_place_of 0 | run 120
+    answered "a row of $1 MB under 22 hours"
+    echo "refused=1 at=8" >"$work/want"
+    megabytes "$1" 0 | with_row x3 x | in_place_of 0 | run 120
+    answered "a row of $1 MB and a letter under 22 hours"
+}
+
+long_rows() {
+    long_row 50
+    { sed '/^x3=/,$d' "$work/header"; printf x3=; fifty 0; } | run 60
+    answered "a row of 50 MB up to the end under 22 hours"
+    under 25
+    fifty 0 | with_row x3 '' | in_place_of 0 | run 60
+    answered "a row of 50 MB under 25 hours"
+    # The second program would take a good deal more memory than that.
+    if [ "$frugal" = yes ]; then
+        long_row 200
+    fi
+
+    under -24
+    echo "refused=2 at=2" >"$work/want"
+    fifty 9 | with_row cat '' | in_place_of 0 | run 60
+    answered "a row of 50 MB of nines under -24 hours"
+    echo "refused=1 at=12" >"$work/want"
+    { fifty 1 | with_row x6 ''; cat "$work/after.0"; } | run 60
+    answered "a row of 50 MB, and no empty line behind it"
+    echo "refused=1 at=3" >"$work/want"
+    fifty 7 | with_row unit '' | in_place_of 0 | run 60
+    answered "a unit of 50 MB"
+    echo "refused=1 at=2" >"$work/want"
+    fifty 2 | with_row hours '' | in_place_of 0 | run 60
+    answered "hours of 50 MB"
 }

@@ -1,25 +1,40 @@
-# Texts of a header and 24 blocks, which `day` and `import` read to the end of
-# input or to the first byte behind block 24. Read by faults.sh. day.sh and
-# import.sh say first how long a block is and how the answers look:
+# Texts of a header and the blocks of a day, which `day` and `import` read to the
+# end of input or to the first byte behind the last block. Read by faults.sh.
+# day.sh and import.sh say first how long a block is and how the answers look:
 #   most_lines             the lines of the longest good block
 #   refused_at HOUR LINE   writes the sample's answer to $work/want, once that
 #                          hour is refused for its form; the header's hour is -
-#   withheld               the same, once bytes follow block 24
+#   withheld               the same, once bytes follow the last block
 
 # Four pieces give their places to others: the header is piece 0, the blocks are
-# 1 to 24. Block 6 is hour 5, which is paid and has paid hours behind it.
+# 1 to $hours. Block 6 is hour 5, which is paid and has paid hours behind it.
 middle=6
 
-# The sample in pieces. $work/closed is the sample with an empty line behind each
-# piece, good.K the lines of piece K, before.K and after.K what stands before it
-# and behind its empty line.
+# The sample $1 as one that says its hours, $2 of them: of its 24 blocks the last
+# one is left out, or the middle one stands behind it once more.
+of_hours() {
+    awk -v hours="$2" -v middle="$middle" '
+        $0 == "" { if (++at > hours) exit; print; next }
+        !at && /^form=/ { print "form=2"; $0 = "hours=" hours }
+        !at && /^import=/ { $0 = $0 " hours=" hours }
+        !at && /^cat=/ { $0 = substr($0 "1", 1, hours + 4) }
+        !at && /^x/ { $0 = substr($0 "0", 1, hours + 3) }
+        at == middle { again = again $0 "\n" }
+        { print }
+        END { if (at < hours) { sub(/^hour=[0-9]+/, "hour=24", again); printf "\n%s", again } }' "$1"
+}
+
+# The sample $1, of $2 hours, in pieces. $work/closed is the sample with an empty
+# line behind each piece, good.K the lines of piece K, before.K and after.K what
+# stands before it and behind its empty line.
 cut_up() {
+    hours=$2
     { cat "$1"; echo; } >"$work/closed"
     echo >"$work/lf"
     printf a >"$work/letter"
     size=$(size_of "$work/closed")
     "$second" <"$1" >"$work/paid"
-    for k in 0 1 "$middle" 24; do
+    for k in 0 1 "$middle" "$hours"; do
         : >"$work/before.$k"
         : >"$work/after.$k"
         awk -v k="$k" -v dir="$work" '
@@ -60,6 +75,16 @@ ends_anywhere() {
     done
 }
 
+# Within the header, at each of its bytes.
+ends_in_header() {
+    n=0
+    while [ "$n" -le "$(size_of "$work/before.1")" ]; do
+        first "$work/closed" "$n" >"$work/text"
+        same "input that ends after $n bytes"
+        n=$((n + 1))
+    done
+}
+
 # --- A slow pipe.
 
 # The sample, a byte at a time from one place to another.
@@ -83,7 +108,7 @@ pausing_at() {
 slowly() {
     cp "$work/paid" "$work/want"
     head=$(size_of "$work/before.1")
-    last=$(size_of "$work/before.24")
+    last=$(size_of "$work/before.$hours")
 
     dd if="$work/closed" bs=1 2>/dev/null | run 60
     answered "a write for each byte"
@@ -103,29 +128,41 @@ slowly() {
     answered "a pause behind the last block"
 }
 
-# --- Bytes behind block 24. The first of them decides, and no more are waited
+# The header a byte at a time, and with a pause within each of its first lines.
+slow_header() {
+    cp "$work/paid" "$work/want"
+    head=$(size_of "$work/before.1")
+    slow_from 0 "$head" | run 60
+    answered "a byte at a time over the header"
+    pausing_at 3 14 20 | run 60
+    answered "pauses within the first lines"
+}
+
+# --- Bytes behind the last block. The first of them decides, and no more are waited
 # for, so that an input without an end has an answer, too.
 behind() {
-    try "a letter behind the last line" before.24 good.24 letter
+    try "a letter behind the last line" "before.$hours" "good.$hours" letter
 
     withheld
     { cat "$work/closed"; echo; } | run 20
-    answered "an LF behind block 24"
+    answered "an LF behind the last block"
     { cat "$work/closed"; printf a; } | run 20
-    answered "a letter behind block 24"
+    answered "a letter behind the last block"
+    { cat "$work/closed"; sed "1s/^hour=[0-9]*/hour=$hours/" "$work/good.1"; } | run 20
+    answered "one more block, of the next hour"
     { cat "$work/closed"; fifty a; } 2>/dev/null | run 60
-    answered "50 MB behind block 24"
+    answered "50 MB behind the last block"
     if [ "$frugal" = no ]; then
         return
     fi
 
     { cat "$work/closed"; yes; } 2>/dev/null | run 10
-    answered "an endless input behind block 24"
+    answered "an endless input behind the last block"
     { cat "$work/closed"; yes ''; } 2>/dev/null | run 10
-    answered "endless empty lines behind block 24"
+    answered "endless empty lines behind the last block"
     { cat "$work/closed"; echo; } >"$work/text"
     held_open "$work/text"
-    answered "an LF behind block 24, and an input that stays open"
+    answered "an LF behind the last block, and an input that stays open"
 
     refused_at - 1
     yes '' 2>/dev/null | run 10
@@ -134,7 +171,7 @@ behind() {
 
 # All cases of the sample $1. An empty input is a header without a line.
 sheet_cases() {
-    cut_up "$1"
+    cut_up "$1" 24
     as_it_is "$1"
     ends_anywhere
     slowly
@@ -150,4 +187,26 @@ sheet_cases() {
     edges
     crowded
     behind
+}
+
+# The cases that go by the count, over the sample $1 as one that says its hours.
+counted_cases() {
+    name=${about%: }
+    for count in 23 24 25; do
+        about="$name, $count hours said: "
+        of_hours "$1" "$count" >"$work/sample"
+        cut_up "$work/sample" "$count"
+        as_it_is "$work/sample"
+        behind
+    done
+    # The longest day, of which the most is kept.
+    ends_anywhere
+    ends_in_header
+    slowly
+    slow_header
+    long_header
+    for length in $lengths; do
+        edge "$length" last
+    done
+    crowded
 }

@@ -26,12 +26,14 @@ sheets_change() {
 
     put 4711-00 short
     put 4711-03 surplus
+    put 4711-04 spring
+    put 4711-05 autumn
     as_user "$way"
-    settled "sheets added, in front and behind" 0 4711-00 4711-03
+    settled "sheets added, in front and behind, of days of 23 to 25 hours" 0 4711-00 4711-03 4711-04 4711-05
 
     touch "$bin/day"
     as_user "$way"
-    settled "a new program" 0 4711-00 4711-01 4711-02 4711-03 "other units/it's 12"
+    settled "a new program" 0 4711-00 4711-01 4711-02 4711-03 4711-04 4711-05 "other units/it's 12"
     touch -r "$work/day" "$bin/day"
 }
 
@@ -46,7 +48,7 @@ spoil() {
 answers_change() {
     fresh
     as_user "$way"
-    for cut in 'cat /dev/null' 'head -c -1' 'head -c -3' 'head -n -1' 'head -n 3' 'head -c 5'; do
+    for cut in 'cat /dev/null' 'head -c -1' 'head -c -3' 'head -n -1' 'head -n 3' 'head -c 5' 'sed 3d'; do
         spoil 4711-01 "$cut"
         as_user "$way"
         settled "an answer through $cut" 0 4711-01
@@ -217,9 +219,9 @@ other_commands() {
     [ "$(grep -c 'refused=' "$work/out")" -eq 8 ] && pass || fail "$refusals: $(wc -l <"$work/out") lines"
 
     mkdir -p "$user/imports"
-    for name in paid range; do cp "$samples/import/$name.txt" "$user/imports"; done
+    for name in paid range autumn; do cp "$samples/import/$name.txt" "$user/imports"; done
     as_user "$imports"
-    for name in paid range; do cmp -s "$samples/import/$name.out" "$user/imports/$name.out" && pass || fail "$imports: $name"; done
+    for name in paid range autumn; do cmp -s "$samples/import/$name.out" "$user/imports/$name.out" && pass || fail "$imports: $name"; done
 
     for sheet in 1 2 3; do
         for cut in 'head -n 3' 'head -c -1' 'head -c 4' 'cat'; do answers_break_off "$sheet" "$cut"; done

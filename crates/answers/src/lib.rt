@@ -100,12 +100,21 @@ fn put_hour(page: &mut [u8], at: usize, k: usize, answer: Answer) -> usize
     }
 }
 
-fn put_hours(page: &mut [u8], at: usize, hours: [HourAnswer; 24]) -> usize
-    ensures { λ r. ⌜ Put (now (page .entry)) at (numbered hourLine 0 (toldAll hours)) (now (page .exit)) r ⌝ }
+// A line for each of the first `count` hours, or for all that there is room for.
+fn put_hours(
+    page: &mut [u8],
+    at: usize,
+    hours: [HourAnswer; tariff::LONGEST_DAY],
+    count: usize,
+) -> usize
+    ensures { λ r. ⌜ Put (now (page .entry)) at (numbered hourLine 0 (take count (toldAll hours))) (now (page .exit)) r ⌝ }
 {
     let mut next = at;
     let mut k: usize = 0;
-    while k < 24 {
+    while k < tariff::LONGEST_DAY {
+        if count <= k {
+            return next;
+        }
         let place = hours[k];
         let answer = place.answer;
         next = put_hour(page, next, k, answer);
@@ -126,20 +135,21 @@ fn put_total(page: &mut [u8], at: usize, total: Total) -> usize
     }
 }
 
-// What `day` prints: a line for each block place and then the total, or a refused header's refusal alone.
+// What `day` prints: a line for each of the day's block places and then the total, or a refused header's refusal alone.
 pub fn put_day(
     page: &mut [u8],
     at: usize,
     header: Found,
-    hours: [HourAnswer; 24],
+    hours: [HourAnswer; tariff::LONGEST_DAY],
+    count: usize,
     total: Total,
 ) -> usize
-    ensures { λ r. ⌜ Put (now (page .entry)) at (dayLines (shown header) (toldAll hours) (toldTotal total)) (now (page .exit)) r ⌝ }
+    ensures { λ r. ⌜ Put (now (page .entry)) at (dayLines (shown header) (take count (toldAll hours)) (toldTotal total)) (now (page .exit)) r ⌝ }
 {
     match header {
         Found::Fault(check) => put_refusal(page, at, check),
         Found::Nothing => {
-            let behind_hours = put_hours(page, at, hours);
+            let behind_hours = put_hours(page, at, hours, count);
             put_total(page, behind_hours, total)
         }
     }

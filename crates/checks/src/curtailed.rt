@@ -1,11 +1,12 @@
 // Checks 1, 2, 3 and 5 of an import's block, each over the whole record.
 ghost use mathlib.Core.Path.{_≡_};
 ghost use mathlib.Core.Bool.{_&&_};
+ghost use Prim.Native.Nat.{ℕ, _<_};
 ghost use lib.IntN.{pos};
-ghost use Rattle.exact.specs.Whole.{eqZ};
+ghost use Rattle.exact.specs.Whole.{Within, eqZ};
 ghost use Rattle.tariff.specs.Sheet.{isHour, isCapacity, isPrice};
 ghost use Rattle.tariff.specs.Reply.{shown, clear};
-ghost use Rattle.tariff.specs.Import.{curtailedInRange, importForm, importRange, importOrder, importSeconds};
+ghost use Rattle.tariff.specs.Import.{curtailed, curtailedInRange, importForm, importRange, importOrder, importSeconds};
 use crate::faults;
 use tariff::Check;
 use tariff::Curtailed;
@@ -36,18 +37,18 @@ pub fn line_in_range(v: Curtailed) -> bool
 }
 
 // Line 1.
-pub fn first_in_range(hour: i64, den: Kw, dec: Price) -> bool
-    ensures { λ r. ⌜ r ≡ (isHour hour && isCapacity (den .0) && isPrice (dec .0)) ⌝ }
+pub fn first_in_range(hour: i64, den: Kw, dec: Price, hours: usize) -> bool
+    ensures { λ r. ⌜ r ≡ (isHour hours hour && isCapacity (den .0) && isPrice (dec .0)) ⌝ }
 {
-    ranges::is_hour(hour) & ranges::is_capacity(den) & ranges::is_price(dec)
+    ranges::is_hour(hour, hours) & ranges::is_capacity(den) & ranges::is_price(dec)
 }
 
 // The first line with a number out of range. Interval i, from 0, stands on line i + 2.
-pub fn range_fault(h: ImportHour) -> Found
+pub fn range_fault(h: ImportHour, hours: usize) -> Found
     requires { ⌜ importForm h ≡ clear ⌝ }
-    ensures { λ r. ⌜ shown r ≡ importRange h ⌝ }
+    ensures { λ r. ⌜ shown r ≡ importRange hours h ⌝ }
 {
-    if !first_in_range(h.hour, h.den, h.dec) {
+    if !first_in_range(h.hour, h.den, h.dec, hours) {
         return Found::Fault(Check::Range(1));
     }
     let n = h.n;
@@ -84,7 +85,7 @@ pub fn order_fault(h: ImportHour, k: usize) -> Found
 }
 
 pub fn seconds_fault(h: ImportHour) -> Found
-    requires { ⌜ (importForm h ≡ clear) × (importRange h ≡ clear) ⌝ }
+    requires { ⌜ (importForm h ≡ clear) × ((i : ℕ) → i < h .n → Within 900 (curtailed h i .s .0)) ⌝ }
     ensures { λ r. ⌜ shown r ≡ importSeconds h ⌝ }
 {
     let n = h.n;

@@ -1,17 +1,18 @@
 // Each of the checks 1 to 5, over the whole record.
 ghost use mathlib.Core.Path.{_≡_};
-ghost use Prim.Native.Nat.{_≤_};
+ghost use Prim.Native.Nat.{ℕ, _<_, _≤_};
 ghost use lib.IntN.{pos, _+ℤ_};
 ghost use Rattle.exact.specs.Whole.{Within, eqZ};
 ghost use Rattle.tariff.specs.Sheet.{curveKeeps};
 ghost use Rattle.tariff.specs.Reply.{shown, clear, unless};
-ghost use Rattle.tariff.specs.Hour.{form, range, order, curves, secondsSum};
+ghost use Rattle.tariff.specs.Hour.{interval, hoursAround, form, range, order, curves, secondsSum};
 use tariff::Check;
 use tariff::Curve;
 use tariff::Expected;
 use tariff::Found;
 use tariff::Hour;
 use tariff::Kw;
+use tariff::LONGEST_DAY;
 use tariff::Seconds;
 
 pub fn form_fault(h: Hour) -> Found
@@ -29,12 +30,23 @@ pub fn form_fault(h: Hour) -> Found
     Found::Nothing
 }
 
-// The first line with a number out of range. Interval i, from 0, stands on line i + 4.
-pub fn range_fault(h: Hour) -> Found
-    requires { ⌜ form h ≡ clear ⌝ }
-    ensures { λ r. ⌜ shown r ≡ range h ⌝ }
+// The hours of the day that a block stands in; one that stands in none may say any hour of the longest.
+pub fn hours_around(expected: Expected) -> usize
+    ensures { λ r. ⌜ r ≡ hoursAround expected ⌝ }
 {
-    if !(ranges::is_hour(h.hour) & ranges::ahead_in_range(h.ahead)) {
+    match expected {
+        Expected::Any => LONGEST_DAY,
+        Expected::Says(_, hours) => hours,
+    }
+}
+
+// The first line with a number out of range. Interval i, from 0, stands on line i + 4.
+pub fn range_fault(h: Hour, expected: Expected) -> Found
+    requires { ⌜ form h ≡ clear ⌝ }
+    ensures { λ r. ⌜ shown r ≡ range h expected ⌝ }
+{
+    let hours = hours_around(expected);
+    if !(ranges::is_hour(h.hour, hours) & ranges::ahead_in_range(h.ahead)) {
         return Found::Fault(Check::Range(1));
     }
     if !ranges::curve_in_range(h.da) {
@@ -67,7 +79,7 @@ pub fn order_fault(h: Hour, expected: Expected) -> Found
 {
     match expected {
         Expected::Any => Found::Nothing,
-        Expected::Says(hour) => {
+        Expected::Says(hour, _) => {
             if same_hour(h.hour, hour) {
                 Found::Nothing
             } else {
@@ -145,7 +157,7 @@ pub fn sum_fault(s: Seconds) -> Found
 }
 
 pub fn seconds_fault(h: Hour) -> Found
-    requires { ⌜ (form h ≡ clear) × (range h ≡ clear) ⌝ }
+    requires { ⌜ (form h ≡ clear) × ((i : ℕ) → i < h .n → Within 900 (interval h i .s .0)) ⌝ }
     ensures { λ r. ⌜ shown r ≡ secondsSum h ⌝ }
 {
     let n = h.n;

@@ -19,7 +19,7 @@ pub fn block_fault(h: Hour, expected: Expected) -> Found
     if let Found::Fault(check) = form {
         return Found::Fault(check);
     }
-    let range = faults::range_fault(h);
+    let range = faults::range_fault(h, expected);
     if let Found::Fault(check) = range {
         return Found::Fault(check);
     }
@@ -34,15 +34,15 @@ pub fn block_fault(h: Hour, expected: Expected) -> Found
     faults::seconds_fault(h)
 }
 
-// The first of the faults 1, 2, 3 and 5 of the import's block at place k of its day.
-pub fn import_fault(h: ImportHour, k: usize) -> Found
-    ensures { λ r. ⌜ shown r ≡ importFault h k ⌝ }
+// The first of the faults 1, 2, 3 and 5 of the import's block at place k of a day of so many hours.
+pub fn import_fault(h: ImportHour, k: usize, hours: usize) -> Found
+    ensures { λ r. ⌜ shown r ≡ importFault hours h k ⌝ }
 {
     let form = curtailed::form_fault(h);
     if let Found::Fault(check) = form {
         return Found::Fault(check);
     }
-    let range = curtailed::range_fault(h);
+    let range = curtailed::range_fault(h, hours);
     if let Found::Fault(check) = range {
         return Found::Fault(check);
     }

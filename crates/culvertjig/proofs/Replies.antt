@@ -12,10 +12,10 @@ use Rattle.blocks.specs.Block.{blockOf}
 use Rattle.sheet.specs.Settle.{replyTo}
 use Rattle.culvertjig.specs.Numbers.{expectedOf, replyOf}
 
-module _ (block : List ℕ) (isExcluded : Bool) (expected : ℤ) (row : List ℤ) where
+module _ (block : List ℕ) (isExcluded : Bool) (expected : ℤ) (hours : ℕ) (row : List ℤ) where
   pub reply-told : (hour : Expected) (a b : Answer)
-      → hour ≡ expectedOf expected
+      → hour ≡ expectedOf expected hours
       → told a ≡ replyTo (blockOf block) isExcluded hour (length row)
       → a ≡ b
-      → replyOf block isExcluded expected row ≡ told b
+      → replyOf block isExcluded expected hours row ≡ told b
   reply-told hour a b e t f = rw (← e) (sym t ∙ ap told f)

@@ -5,15 +5,15 @@ use Rattle.culvertjig.proofs.culvertjig_block.Reads as culvertjig-block
 pub one-culvertjig-block : OneReply culvertjig-block.Post
 one-culvertjig-block κ a r s u v p q = one r s (p .0) (q .0)
 
--- the row is the fourth parameter, and the three numbers follow it
-pub one-row : OneState (λ κ e. e .1 .1 .1 .0 .now) culvertjig-block.Post
+-- the row is the fifth parameter, and the three numbers follow it
+pub one-row : OneState (λ κ e. e .1 .1 .1 .1 .0 .now) culvertjig-block.Post
 one-row κ a r s u v p q = one _ _ (p .1 .1 .1 .1) (q .1 .1 .1 .1)
 
-pub one-place : OneState (λ κ e. e .1 .1 .1 .1 .0 .now) culvertjig-block.Post
+pub one-place : OneState (λ κ e. e .1 .1 .1 .1 .1 .0 .now) culvertjig-block.Post
 one-place κ a r s u v p q = one _ _ (p .1 .0) (q .1 .0)
 
-pub one-grains : OneState (λ κ e. e .1 .1 .1 .1 .1 .0 .now) culvertjig-block.Post
+pub one-grains : OneState (λ κ e. e .1 .1 .1 .1 .1 .1 .0 .now) culvertjig-block.Post
 one-grains κ a r s u v p q = one _ _ (p .1 .1 .0) (q .1 .1 .0)
 
-pub one-cents : OneState (λ κ e. e .1 .1 .1 .1 .1 .1 .0 .now) culvertjig-block.Post
+pub one-cents : OneState (λ κ e. e .1 .1 .1 .1 .1 .1 .1 .0 .now) culvertjig-block.Post
 one-cents κ a r s u v p q = one _ _ (p .1 .1 .1 .0) (q .1 .1 .1 .0)

@@ -12,13 +12,13 @@ use Rattle.tariff.specs.Reply.{Reply, paid, refused}
 use Rattle.blocks.specs.Block.{blockOf}
 use Rattle.sheet.specs.Settle.{replyTo}
 
--- the hour that the block has to say; below 0 stands for any
-abbrev pub expectedOf : ℤ → Expected
-expectedOf hour = if ltZ hour (pos 0) then Any else Says hour
+-- the hour that the block has to say, on a day of so many hours; below 0 stands for any, on no day
+abbrev pub expectedOf : ℤ → (hours : ℕ) → Expected
+expectedOf hour hours = if ltZ hour (pos 0) then Any else Says hour hours
 
 -- the reply to a call that lends these bytes and this row
-abbrev pub replyOf : List ℕ → Bool → ℤ → List ℤ → Reply
-replyOf block isExcluded expected row = replyTo (blockOf block) isExcluded (expectedOf expected) (length row)
+abbrev pub replyOf : List ℕ → Bool → ℤ → (hours : ℕ) → List ℤ → Reply
+replyOf block isExcluded expected hours row = replyTo (blockOf block) isExcluded (expectedOf expected hours) (length row)
 
 -- 0 where the block is paid, else the number of the check that refuses
 abbrev pub numberHeld : Reply → ℕ

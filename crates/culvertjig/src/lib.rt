@@ -6,36 +6,37 @@ ghost use Rattle.culvertjig.specs.Numbers.{expectedOf, replyOf, numberHe
 use tariff::Answer;
 use tariff::Expected;
 
-// Below 0 stands for any hour.
-fn hour_expected(expected: i64) -> Expected
-    ensures { λ r. ⌜ r ≡ expectedOf expected ⌝ }
+// Below 0 stands for any hour; then the count of the day's hours is not read.
+fn hour_expected(expected: i64, hours: u64) -> Expected
+    ensures { λ r. ⌜ r ≡ expectedOf expected hours ⌝ }
 {
     if expected < 0 {
         Expected::Any
     } else {
-        Expected::Says(expected)
+        Expected::Says(expected, hours as usize)
     }
 }
 
-// Settles the hour block that begins at the first byte: 0 where it is paid, with `grains`, `cents` and the front of `row` written,
+// Settles the hour block that begins at the first byte, in a day of so many hours where an hour is expected: 0 where it is paid, with `grains`, `cents` and the front of `row` written,
 // else the number of the check that refuses, with `place` written. What is not written is as it was.
 #[no_mangle]
 pub extern "C" fn culvertjig_block(
     block: &[u8],
     excluded: bool,
     expected: i64,
+    hours: u64,
     row: &mut [i64],
     place: &mut u64,
     grains: &mut i64,
     cents: &mut i64,
 ) -> u64
-    ensures number { λ r. ⌜ r ≡ numberHeld (replyOf (now (block .entry)) excluded expected (now (row .entry))) ⌝ }
-    ensures place { λ _. ⌜ now (place .exit) ≡ placeHeld (replyOf (now (block .entry)) excluded expected (now (row .entry))) (now (place .entry)) ⌝ }
-    ensures grains { λ _. ⌜ now (grains .exit) ≡ grainsHeld (replyOf (now (block .entry)) excluded expected (now (row .entry))) (now (grains .entry)) ⌝ }
-    ensures cents { λ _. ⌜ now (cents .exit) ≡ centsHeld (replyOf (now (block .entry)) excluded expected (now (row .entry))) (now (cents .entry)) ⌝ }
-    ensures row { λ _. ⌜ now (row .exit) ≡ rowTo (blockOf (now (block .entry))) excluded (expectedOf expected) (now (row .entry)) ⌝ }
+    ensures number { λ r. ⌜ r ≡ numberHeld (replyOf (now (block .entry)) excluded expected hours (now (row .entry))) ⌝ }
+    ensures place { λ _. ⌜ now (place .exit) ≡ placeHeld (replyOf (now (block .entry)) excluded expected hours (now (row .entry))) (now (place .entry)) ⌝ }
+    ensures grains { λ _. ⌜ now (grains .exit) ≡ grainsHeld (replyOf (now (block .entry)) excluded expected hours (now (row .entry))) (now (grains .entry)) ⌝ }
+    ensures cents { λ _. ⌜ now (cents .exit) ≡ centsHeld (replyOf (now (block .entry)) excluded expected hours (now (row .entry))) (now (cents .entry)) ⌝ }
+    ensures row { λ _. ⌜ now (row .exit) ≡ rowTo (blockOf (now (block .entry))) excluded (expectedOf expected hours) (now (row .entry)) ⌝ }
 {
-    let answer = sheet::settle_block(block, excluded, hour_expected(expected), row);
+    let answer = sheet::settle_block(block, excluded, hour_expected(expected, hours), row);
     match answer {
         Answer::Paid(sum, paid) => {
             let whole = sum.0;

@@ -19,7 +19,7 @@ fn main() {
         return;
     }
     let mut text = [0u8; intake::DAY];
-    let n = intake::take_in(&mut text, intake::PIECES);
+    let n = input::take_sheet(&mut text);
     let mut page = [0u8; printed::LONGEST];
     let m = printed::day_text(&text[..n], &mut page);
     io::write_all(STDOUT_FILENO, &page[..m]);

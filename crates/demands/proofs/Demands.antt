@@ -1,12 +1,11 @@
 -- The demands, on one page: of the programs `hour`, `day` and `import`, of the block call for other programs, and of what they settle.
--- A text is a list of bytes, any bytes. Each demand is proved by citing what proves it; the words are document 01's, in specs/ of each crate.
--- Witness.antt has small texts that meet the conditions, so that no theorem here is empty.
+-- A text is a list of bytes, any bytes. Each demand is proved by citing what proves it; the words are the documents', in specs/ of each crate.
+-- Witness.antt has small texts, and for curve that is added to a day a day of one hour, that meet the conditions, so that none is empty.
 use mathlib.Core.Path.{_≡_, sym, _∙_}
-use mathlib.Core.Bool.{Bool, false}
+use mathlib.Core.Bool.{Bool, true, false}
 use mathlib.Core.List.{List, [], _++_}
 use mathlib.Core.Logic.{_↔_}
-use Prim.Native.Nat.{ℕ, _+_, _*_, _<_, _≤_}
-use native.Mathlib.Omega.{arith}
+use Prim.Native.Nat.{ℕ, suc, _+_, _*_, _<_, _≤_}
 use lib.IntN.{ℤ, pos}
 use lib.ListN.{length, take, getD}
 use Rattle.exact.specs.Whole.{sumTo}
@@ -22,10 +21,14 @@ use Rattle.tariff.specs.Demand.{MustPrice, priceIn, FirstUnpriced, FirstExceede
 use Rattle.tariff.specs.Import as import
 use Rattle.tariff.proofs.Demands.{paid-row}
 use Rattle.text.specs.Text.{bytes}
-use Rattle.lines.specs.Pieces.{PIECE, restAfter, piece}
+use Rattle.lines.specs.Pieces.{PIECE, restAfter, piece, isSome}
+use Rattle.lines.specs.Squeezed.{squeezed}
 use Rattle.intake.specs.declared.Intake.{Intake}
-use Rattle.intake.specs.Intake.{keptOf, afterAll, storeAll, atFirst}
+use Rattle.intake.specs.Intake.{PIECES, keptOf, afterAll, storeAll, atFirst}
+use Rattle.intake.specs.declared.squeeze.Squeeze.{Squeeze}
+use Rattle.intake.specs.Squeeze.{squeezedBy, squeezeAfter}
 use Rattle.intake.proofs.Kept.{parts, room-store}
+use Rattle.intake.proofs.Squeezes.{split}
 use Rattle.blocks.specs.Block.{blockOf, read}
 use Rattle.sheet.specs.Settle.{replyTo, rowTo}
 use Rattle.sheet.specs.Apart.{CurvesApart}
@@ -43,7 +46,7 @@ use Rattle.sheet.proofs.BlockDemands.{
   behind-the-close,
 }
 use Rattle.header.specs.Header.{marksOf}
-use Rattle.ledger.specs.Day.{frontOf, dayReply, dayTotal}
+use Rattle.ledger.specs.Day.{frontOf, dayReply, surplus, dayTotal}
 use Rattle.tariff.specs.Total.{total, Pays, paidCents}
 use Rattle.ledger.specs.Demand.{PricedAlike, DaysApart, BothRead}
 use Rattle.ledger.proofs.SheetFront.{as-marked}
@@ -51,10 +54,8 @@ use Rattle.ledger.proofs.DayDemands.{
   an-hour-is-refused-for-reach-exactly-when-some-kilowatt-is-unpriced,
   an-hour-is-refused-for-derate-exactly-when-some-reduction-exceeds,
   the-total-is-the-sum-of-what-is-printed,
-  only-needed-prices-of-a-day-matter,
-  adding-curve-to-a-day-changes-nothing,
 }
-use Rattle.imports.specs.Import.{importReply}
+use Rattle.imports.specs.Import.{hoursIn, importReply}
 use Rattle.imports.specs.Demand.{PaidBy}
 use Rattle.imports.proofs.ImportDemands.{paid-exactly-when-unrefused}
 use Rattle.printed.specs.Printed.{LONGEST, hourText, dayText, importText}
@@ -71,7 +72,7 @@ use Rattle.printed.proofs.import_text.Statement as import-day
 use Rattle.printed.proofs.import_text.Met as import-is
 use Rattle.demands.specs.Listing.{listing}
 use Rattle.demands.proofs.Blocks.{paid-as, as-paid, row-of-a-refused}
-use Rattle.demands.proofs.Printed.{lent, kept-hour, kept-day, kept-import, same-hour, same-answer, same-day}
+use Rattle.demands.proofs.Printed.{lent, kept-hour, kept-day, kept-import, append-day, append-import, same-hour, same-answer, days-printed-alike, curve-added-to-a-day}
 use Rattle.demands.proofs.Listing.{listing-printed, short-printed}
 
 -- ==== 1. Every sheet, good or bad, gets an answer and the program stops
@@ -95,30 +96,40 @@ pub import-answers : {M : Type 1} → import-day.statement M
 import-answers = import-is.met
 
 -- No answer is longer than the page of 2,048 bytes that a program lends for it, so none is cut.
-pub no-answer-is-cut : (s : List ℕ) → (length (hourText s) ≤ LONGEST) × (length (dayText 24 s) ≤ LONGEST) × (length (importText 24 s) ≤ LONGEST)
-no-answer-is-cut s = (hour-fits s, day-fits 24 s (omega arith), import-fits 24 s)
+pub no-answer-is-cut : (s : List ℕ) → (length (hourText s) ≤ LONGEST) × (length (dayText s) ≤ LONGEST) × (length (importText s) ≤ LONGEST)
+no-answer-is-cut s = (hour-fits s, day-fits s, import-fits s)
 
 -- Of texts, not of reading: however long a text is, the bounded part of it that a program keeps gives the same bytes.
 pub what-is-kept-decides :
     (s : List ℕ)
-    → (hourText (take PIECE s) ≡ hourText s) × (dayText 24 (keptOf (atFirst 25) s) ≡ dayText 24 s) × (importText 24 (keptOf (atFirst 25) s) ≡ importText 24 s)
-what-is-kept-decides s = (kept-hour s, kept-day 24 s (omega arith), kept-import 24 s)
+    → (hourText (take PIECE s) ≡ hourText s) × (dayText (keptOf (atFirst PIECES) (squeezed s)) ≡ dayText s) × (importText (keptOf (atFirst PIECES) s) ≡ importText s)
+what-is-kept-decides s = (kept-hour s, kept-day s, kept-import s)
+
+-- Once a byte stands behind the last block of the day that a text says, no further byte of it changes one that `day` or `import` prints.
+pub behind-the-last-block-no-byte-matters :
+    (s t : List ℕ)
+    → (isSome (restAfter (suc (frontOf s .hours)) s) ≡ true → dayText (s ++ t) ≡ dayText s)
+    × (isSome (restAfter (suc (hoursIn s)) s) ≡ true → importText (s ++ t) ≡ importText s)
+behind-the-last-block-no-byte-matters s t = (append-day s t, append-import s t)
 
 -- What follows in a text behind the empty line that closes its first block never changes a byte of `hour`'s answer to it.
 pub hour-stops-at-the-empty-line : (s behind : List ℕ) → Closed s → hourText (s ++ behind) ≡ hourText s
 hour-stops-at-the-empty-line s behind c = same-hour (s ++ behind) s (behind-the-close s behind c)
 
--- A text that is taken in byte by byte leaves what is kept of it in a row of 266,080 bytes, in whatever parts the text comes.
+-- A text that is taken in byte by byte leaves what is kept of it in a row of 276,723 bytes, in whatever parts the text comes.
 pub the-row-holds-what-is-kept :
     (row s : List ℕ)
-    → 25 * (PIECE + 3) + 4 ≤ length row
-    → take (afterAll row (atFirst 25) s .n) (storeAll row (atFirst 25) s) ≡ keptOf (atFirst 25) s
-the-row-holds-what-is-kept row s room = room-store row s 25 room
+    → PIECES * (PIECE + 3) + 4 ≤ length row
+    → take (afterAll row (atFirst PIECES) s .n) (storeAll row (atFirst PIECES) s) ≡ keptOf (atFirst PIECES) s
+the-row-holds-what-is-kept row s room = room-store row s PIECES room
 
 pub no-matter-in-which-parts :
     (row a b : List ℕ) (i : Intake)
     → (afterAll row i (a ++ b) ≡ afterAll (storeAll row i a) (afterAll row i a) b) × (storeAll row i (a ++ b) ≡ storeAll (storeAll row i a) (afterAll row i a) b)
 no-matter-in-which-parts row a b i = parts a b row i
+
+pub nor-for-the-header : (state : Squeeze) (a b : List ℕ) → squeezedBy state (a ++ b) ≡ squeezedBy state a ++ squeezedBy (squeezeAfter state a) b
+nor-for-the-header state a b = split a b state .0
 
 -- A refusal leaves the lent row untouched.
 pub a-refusal-leaves-the-row :
@@ -166,14 +177,14 @@ a-paid-row-holds-each-contribution s h isExcluded expected row sum cents x e = r
 
 -- A day: the cents of its hours, where every hour is paid and nothing follows the last block.
 pub a-day-pays-its-hours :
-    (hours : ℕ) (s : List ℕ) (c : ℤ)
-    → (dayTotal (frontOf hours s) ≡ total c)
-    ↔ (((k : ℕ) → k < hours → Pays (dayReply (frontOf hours s) k))
-    × (c ≡ sumTo (λ k. paidCents (dayReply (frontOf hours s) k)) hours) × (restAfter hours (frontOf hours s .body) ≡ []))
-a-day-pays-its-hours hours s = the-total-is-the-sum-of-what-is-printed (frontOf hours s)
+    (s : List ℕ) (c : ℤ)
+    → (dayTotal (frontOf s) ≡ total c)
+    ↔ (((k : ℕ) → k < frontOf s .hours → Pays (dayReply (frontOf s) k))
+    × (c ≡ sumTo (λ k. paidCents (dayReply (frontOf s) k)) (frontOf s .hours)) × (surplus (frontOf s) ≡ []))
+a-day-pays-its-hours s = the-total-is-the-sum-of-what-is-printed (frontOf s)
 
 -- A curtailed import: the sum of its hours' parts, which becomes cents once, where nothing refuses it.
-pub an-import-pays-its-hours : (hours : ℕ) (s : List ℕ) (name g c : ℤ) → (importReply hours s ≡ import.paid name g c) ↔ PaidBy hours s name g c
+pub an-import-pays-its-hours : (s : List ℕ) (name g c : ℤ) → (importReply s ≡ import.paid name g c) ↔ PaidBy s name g c
 an-import-pays-its-hours = paid-exactly-when-unrefused
 
 -- ==== 3. Only the prices of the kilowatts that eligible intervals must price matter
@@ -206,11 +217,11 @@ such-blocks-are-printed-alike s t h g o x y f f′ e =
 
 -- And two days of such blocks are printed alike, byte for byte.
 pub such-days-are-printed-alike :
-    (hours : ℕ) (s t : List ℕ)
-    → DaysApart (frontOf hours s) (frontOf hours t)
-    → BothRead (frontOf hours s) (frontOf hours t) (λ k h j. PricedAlike h j (frontOf hours s .isExcluded k) (Says (pos k)))
-    → dayText hours s ≡ dayText hours t
-such-days-are-printed-alike hours s t apart priced = same-day hours s t (only-needed-prices-of-a-day-matter (frontOf hours s) (frontOf hours t) apart priced)
+    (s t : List ℕ)
+    → DaysApart (frontOf s) (frontOf t)
+    → BothRead (frontOf s) (frontOf t) (λ k h j. PricedAlike h j (frontOf s .isExcluded k) (Says (pos k) (frontOf s .hours)))
+    → dayText s ≡ dayText t
+such-days-are-printed-alike s t = days-printed-alike (frontOf s) (frontOf t)
 
 -- An hour is refused for reach exactly when no check from 1 to 5 refuses it, such a kilowatt has no price in some interval, and no derate
 -- refusal falls in that interval or before it.
@@ -222,18 +233,18 @@ refused-for-reach-exactly-when-some-interval-lacks-such-a-price = block-refused-
 
 -- So is hour k of a day. It is excluded as the marks of the day's header say.
 pub an-hour-is-excluded-as-the-marks-say :
-    (hours : ℕ) (s : List ℕ) → frontOf hours s .fault ≡ clear → frontOf hours s .isExcluded ≡ excluded hours (marksOf hours s)
+    (s : List ℕ) → frontOf s .fault ≡ clear → frontOf s .isExcluded ≡ excluded (frontOf s .hours) (marksOf s)
 an-hour-is-excluded-as-the-marks-say = as-marked
 
 pub refused-for-reach-in-a-day-exactly-when-some-interval-lacks-such-a-price :
-    (hours : ℕ) (s : List ℕ)
-    → frontOf hours s .fault ≡ clear
+    (s : List ℕ)
+    → frontOf s .fault ≡ clear
     → (k : ℕ) (h : Hour)
-    → blockOf (piece k (frontOf hours s .body)) ≡ read h
-    → ((place : ℕ) × (dayReply (frontOf hours s) k ≡ refused REACH place))
-    ↔ (WholeHour h (Says (pos k)) × UnpricedBeforeDerate h (frontOf hours s .isExcluded k))
-refused-for-reach-in-a-day-exactly-when-some-interval-lacks-such-a-price hours s =
-    an-hour-is-refused-for-reach-exactly-when-some-kilowatt-is-unpriced (frontOf hours s)
+    → blockOf (piece k (frontOf s .body)) ≡ read h
+    → ((place : ℕ) × (dayReply (frontOf s) k ≡ refused REACH place))
+    ↔ (WholeHour h (Says (pos k) (frontOf s .hours)) × UnpricedBeforeDerate h (frontOf s .isExcluded k))
+refused-for-reach-in-a-day-exactly-when-some-interval-lacks-such-a-price s =
+    an-hour-is-refused-for-reach-exactly-when-some-kilowatt-is-unpriced (frontOf s)
 
 -- Its place is the first interval with such a kilowatt, from 1.
 pub reach-exactly-when-such-a-kilowatt-has-no-price :
@@ -252,14 +263,14 @@ refused-for-derate-exactly-when-some-reduction-exceeds-its-room = block-refused-
 
 -- So is hour k of a day.
 pub refused-for-derate-in-a-day-exactly-when-some-reduction-exceeds-its-room :
-    (hours : ℕ) (s : List ℕ)
-    → frontOf hours s .fault ≡ clear
+    (s : List ℕ)
+    → frontOf s .fault ≡ clear
     → (k : ℕ) (h : Hour)
-    → blockOf (piece k (frontOf hours s .body)) ≡ read h
-    → ((place : ℕ) × (dayReply (frontOf hours s) k ≡ refused DERATE place))
-    ↔ (WholeHour h (Says (pos k)) × ExceededBeforeReach h (frontOf hours s .isExcluded k))
-refused-for-derate-in-a-day-exactly-when-some-reduction-exceeds-its-room hours s =
-    an-hour-is-refused-for-derate-exactly-when-some-reduction-exceeds (frontOf hours s)
+    → blockOf (piece k (frontOf s .body)) ≡ read h
+    → ((place : ℕ) × (dayReply (frontOf s) k ≡ refused DERATE place))
+    ↔ (WholeHour h (Says (pos k) (frontOf s .hours)) × ExceededBeforeReach h (frontOf s .isExcluded k))
+refused-for-derate-in-a-day-exactly-when-some-reduction-exceeds-its-room s =
+    an-hour-is-refused-for-derate-exactly-when-some-reduction-exceeds (frontOf s)
 
 -- Its place is the first such interval, from 1.
 pub derate-exactly-when-a-reduction-exceeds-its-room :
@@ -299,10 +310,9 @@ adding-curve-changes-no-byte-of-an-hour s t h g o x y f d r e =
 
 -- Nor to a day whose hours are all paid: every byte that is printed stays.
 pub adding-curve-to-a-day-never-moves-a-cent :
-    (hours : ℕ) (s t : List ℕ)
-    → DaysApart (frontOf hours s) (frontOf hours t)
-    → ((k : ℕ) → k < hours → Pays (dayReply (frontOf hours s) k))
-    → BothRead (frontOf hours s) (frontOf hours t) (λ k h j. Lawful j (Says (pos k)) × Extends (h .da) (j .da) × Extends (h .rt) (j .rt))
-    → dayText hours s ≡ dayText hours t
-adding-curve-to-a-day-never-moves-a-cent hours s t apart pays longer =
-    same-day hours s t (adding-curve-to-a-day-changes-nothing (frontOf hours s) (frontOf hours t) apart pays longer)
+    (s t : List ℕ)
+    → DaysApart (frontOf s) (frontOf t)
+    → ((k : ℕ) → k < frontOf s .hours → Pays (dayReply (frontOf s) k))
+    → BothRead (frontOf s) (frontOf t) (λ k h j. Lawful j (Says (pos k) (frontOf s .hours)) × Extends (h .da) (j .da) × Extends (h .rt) (j .rt))
+    → dayText s ≡ dayText t
+adding-curve-to-a-day-never-moves-a-cent s t = curve-added-to-a-day (frontOf s) (frontOf t)

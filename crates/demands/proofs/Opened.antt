@@ -26,7 +26,7 @@ use Rattle.lines.specs.Series.{seriesPlace, seriesIn, seriesAt}
 use Rattle.blocks.specs.CurveLine.{curveLine, curveSaid}
 use Rattle.blocks.specs.Block.{Block, blockAt, blockOf}
 use Rattle.header.specs.Layout.{digitsAt, rowAt, saidAt, headerLine, linePlace, lineInRange, layoutForm, layoutRange, numberOn, digitOn}
-use Rattle.header.specs.Header.{headerFault, rowWord, marksOf}
+use Rattle.header.specs.Header.{headerFault, rowWord, marksBy}
 
 unfoldable pub reading : List ℕ → Block
 unfolding
@@ -42,9 +42,9 @@ cutting s = piece 0 s
 -- the header and its marks
 unfoldable pub judging : List ℕ → Verdict
 unfolding
-    layoutForm layoutRange lineInRange numberOn digitOn rowWord marksOf linePlace headerLine saidAt rowAt digitsAt valueIn afterFields fieldAt
+    layoutForm layoutRange lineInRange numberOn digitOn rowWord marksBy linePlace headerLine saidAt rowAt digitsAt valueIn afterFields fieldAt
     valueAt keyAt numberAt naturalAt moreDigits digitAt allTo firstOf upTo word excluded someTo
-judging s = headerFault 1 s
+judging s = headerFault s
 
 -- what an interval must price, and at what price
 unfoldable pub pricing : Curve → ℤ → Amount

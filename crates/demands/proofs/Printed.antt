@@ -1,32 +1,32 @@
 -- From answers to printed texts: where the answers are the same, so is every printed byte.
 use mathlib.Core.Path.{_≡_, refl, sym, _∙_, ap}
-use mathlib.Core.Bool.{false}
-use mathlib.Core.List.{List}
-use Prim.Native.Nat.{ℕ, suc, _≤_}
+use mathlib.Core.Bool.{true, false}
+use mathlib.Core.List.{List, _++_}
+use Prim.Native.Nat.{ℕ, suc, _<_}
+use native.Mathlib.Omega.{arith}
 use lib.IntN.{ℤ, pos}
 use lib.ListN.{take, replicate}
+use Rattle.exact.specs.Whole.{upTo}
 use Rattle.exact.proofs.Sums.{up-same}
 use Rattle.tariff.specs.declared.Hour.{Hour}
-use Rattle.tariff.specs.declared.Expected.the-variants.{Any}
-use Rattle.lines.specs.Pieces.{PIECE}
-use Rattle.intake.specs.Intake.{keptOf, atFirst}
+use Rattle.tariff.specs.declared.Expected.the-variants.{Any, Says}
+use Rattle.tariff.specs.Total.{Pays}
+use Rattle.tariff.specs.Demand.{Lawful, Extends}
+use Rattle.lines.specs.Pieces.{PIECE, restAfter, isSome}
+use Rattle.lines.specs.Squeezed.{squeezed}
+use Rattle.intake.specs.Intake.{PIECES, keptOf, atFirst}
 use Rattle.blocks.specs.Block.{Block, read, blockOf}
 use Rattle.sheet.specs.Settle.{replyTo, rowTo, hourSaid, countSaid}
 use Rattle.sheet.specs.Apart.{CurvesApart}
-use Rattle.sheet.proofs.BlockDemands.{
-  curves-apart-are-alike,
-  only-needed-prices-of-blocks-matter,
-  adding-curve-to-a-block-changes-nothing,
-  behind-the-close,
-  first-bytes-decide,
-}
-use Rattle.ledger.specs.Day.{frontOf, dayReply}
-use Rattle.ledger.specs.Demand.{SettledAlike}
-use Rattle.ledger.proofs.DayDemands.{a-kept-sheet-is-settled-alike}
-use Rattle.imports.proofs.ImportDemands.{a-kept-import-is-settled-alike}
+use Rattle.sheet.proofs.BlockDemands.{curves-apart-are-alike, first-bytes-decide}
+use Rattle.ledger.specs.Day.{Front, frontOf, dayReply}
+use Rattle.ledger.specs.Demand.{SettledAlike, PricedAlike, DaysApart, BothRead}
+use Rattle.ledger.proofs.DayDemands.{no-day-is-longer, only-needed-prices-of-a-day-matter, adding-curve-to-a-day-changes-nothing, a-kept-sheet-is-settled-alike, behind-a-surplus-byte-nothing-settles}
+use Rattle.imports.specs.Import.{hoursIn}
+use Rattle.imports.proofs.ImportDemands as imports
 use Rattle.answers.specs.Answers.{answerText, importLine}
-use Rattle.printed.specs.Printed.{contributionsOf, hourText, dayText, importText}
-use Rattle.printed.proofs.Texts.{hour-text, day-text}
+use Rattle.printed.specs.Printed.{contributionsOf, hourText, dayPage, dayText, importText}
+use Rattle.printed.proofs.Texts.{hour-text, day-page}
 
 -- ---- `hour`
 
@@ -54,15 +54,35 @@ module _ (s t : List ℕ) (h g : Hour) (o : CurvesApart s t) (x : blockOf s ≡ 
 
 -- ---- `day`
 
-pub same-day : (hours : ℕ) (s t : List ℕ) → SettledAlike (frontOf hours s) (frontOf hours t) → dayText hours s ≡ dayText hours t
-unfolding dayText
-same-day hours s t o = day-text hours t (o .fault) (up-same (dayReply (frontOf hours s)) (dayReply (frontOf hours t)) hours (o .answers)) (o .total)
+pub same-day : (f g : Front) → SettledAlike f g → dayPage f ≡ dayPage g
+unfolding dayPage
+same-day f g o =
+    let answers = up-same (dayReply f) (dayReply g) (f .hours) (o .answers) in
+    day-page g (o .fault) (answers ∙ ap (upTo (dayReply g)) (o .hours)) (o .total)
 
-pub kept-day : (hours : ℕ) (s : List ℕ) → hours ≤ 24 → dayText hours (keptOf (atFirst (suc hours)) s) ≡ dayText hours s
-kept-day hours s h = same-day hours (keptOf (atFirst (suc hours)) s) s (a-kept-sheet-is-settled-alike hours s h)
+-- two days that differ in their curve lines only, whatever stands in front of their blocks
+module _ (f g : Front) (apart : DaysApart f g) where
+  pub days-printed-alike : BothRead f g (λ k h j. PricedAlike h j (f .isExcluded k) (Says (pos k) (f .hours))) → dayPage f ≡ dayPage g
+  days-printed-alike priced = same-day f g (only-needed-prices-of-a-day-matter f g apart priced)
+
+  pub curve-added-to-a-day : ((k : ℕ) → k < f .hours → Pays (dayReply f k))
+      → BothRead f g (λ k h j. Lawful j (Says (pos k) (f .hours)) × Extends (h .da) (j .da) × Extends (h .rt) (j .rt)) → dayPage f ≡ dayPage g
+  curve-added-to-a-day pays longer = same-day f g (adding-curve-to-a-day-changes-nothing f g apart pays longer)
+
+pub kept-day : (s : List ℕ) → dayText (keptOf (atFirst PIECES) (squeezed s)) ≡ dayText s
+kept-day s =
+    let few = no-day-is-longer s in
+    same-day (frontOf (keptOf (atFirst PIECES) (squeezed s))) (frontOf s) (a-kept-sheet-is-settled-alike s PIECES (omega arith))
+
+pub append-day : (s t : List ℕ) → isSome (restAfter (suc (frontOf s .hours)) s) ≡ true → dayText (s ++ t) ≡ dayText s
+append-day s t more = same-day (frontOf (s ++ t)) (frontOf s) (behind-a-surplus-byte-nothing-settles s t more)
 
 -- ---- `import`
 
-pub kept-import : (hours : ℕ) (s : List ℕ) → importText hours (keptOf (atFirst (suc hours)) s) ≡ importText hours s
+pub kept-import : (s : List ℕ) → importText (keptOf (atFirst PIECES) s) ≡ importText s
 unfolding importText
-kept-import hours s = ap importLine (a-kept-import-is-settled-alike hours s)
+kept-import s = let few = imports.no-day-is-longer s in ap importLine (imports.a-kept-import-is-settled-alike PIECES s (omega arith))
+
+pub append-import : (s t : List ℕ) → isSome (restAfter (suc (hoursIn s)) s) ≡ true → importText (s ++ t) ≡ importText s
+unfolding importText
+append-import s t more = ap importLine (imports.behind-a-surplus-byte-nothing-settles s t more)

@@ -1,23 +1,67 @@
--- From what a program takes in to what it prints: `take_in` leaves what some text leaves, so every printed byte of `day` and `import` is
--- that of some input.
-use mathlib.Core.Path.{_≡_, ap, ap₂, _∙_}
-use mathlib.Core.List.{List}
-use Prim.Native.Nat.{ℕ, _+_, _*_, _≤_}
+-- From what a program takes in to what it prints: what is taken in is what some text leaves, so every printed byte of `day` and `import` is
+-- that of some input; and where the text goes past its last block, that of every input which goes on behind it.
+use mathlib.Core.Path.{_≡_, sym, ap, ap₂, _∙_}
+use mathlib.Core.Bool.{Bool, true, false}
+use mathlib.Core.List.{List, _++_}
+use Prim.Native.Nat.{ℕ, suc, _+_, _*_, _≤_}
+use native.Mathlib.Numerals.{add-one}
 use native.Mathlib.Omega.{arith}
 use lib.ListN.{length, take}
-use Rattle.lines.specs.Pieces.{PIECE}
-use Rattle.intake.specs.Intake.{TakenIn, keptOf, atFirst}
-use Rattle.intake.proofs.Kept.{room-store}
+use Rattle.lines.specs.Pieces.{PIECE, restAfter, isSome}
+use Rattle.lines.proofs.Squeezed.{rest-squeezed}
+use Rattle.intake.specs.Intake.{PIECES, TakenIn, keptOf, afterAll, atFirst, goesPast}
+use Rattle.intake.specs.Squeeze.{squeezeFirst, squeezedBy}
+use Rattle.intake.proofs.Kept.{room-store, piece-kept}
+use Rattle.intake.proofs.Past.{past-some}
+use Rattle.ledger.specs.Day.{frontOf}
+use Rattle.ledger.proofs.DayDemands as ledger
+use Rattle.imports.specs.Import.{hoursIn}
+use Rattle.imports.proofs.KeptHead.{head-kept}
 use Rattle.printed.specs.Printed.{dayText, importText}
-use Rattle.demands.proofs.Printed.{kept-day, kept-import}
+use Rattle.demands.proofs.Printed.{kept-day, kept-import, append-day, append-import}
 
--- a row of 266,080 bytes has room for what is kept of 25 pieces: `last` is the row when `take_in` has returned, `count` its reply
-module _ (row last : List ℕ) (count : ℕ) (room : 25 * (PIECE + 3) + 4 ≤ length row) (taken : TakenIn row 25 last count) where
-  what-is-lent : take count last ≡ keptOf (atFirst 25) (taken .text)
-  what-is-lent = ap₂ (λ (n : ℕ) (l : List ℕ). take n l) (taken .counted) (taken .holds) ∙ room-store row (taken .text) 25 room
+-- a row with room for what is kept of so many pieces: `last` is the row when the text was taken in, `count` the reply
+module _ (row last : List ℕ) (count : ℕ) (header : Bool) (room : PIECES * (PIECE + 3) + 4 ≤ length row) (taken : TakenIn row PIECES header last count) where
+  what-is-lent : take count last ≡ keptOf (atFirst PIECES) (squeezedBy (squeezeFirst header) (taken .text))
+  what-is-lent =
+      ap₂ (λ (n : ℕ) (l : List ℕ). take n l) (taken .counted) (taken .holds)
+      ∙ room-store row (squeezedBy (squeezeFirst header) (taken .text)) PIECES room
 
-  pub what-day-prints : dayText 24 (take count last) ≡ dayText 24 (taken .text)
-  what-day-prints = ap (dayText 24) what-is-lent ∙ kept-day 24 (taken .text) (omega arith)
+module _ (row last : List ℕ) (count : ℕ) (room : PIECES * (PIECE + 3) + 4 ≤ length row) where
+  -- a sheet's header is squeezed, an import is taken in as it is
+  pub what-day-prints : (taken : TakenIn row PIECES true last count) → dayText (take count last) ≡ dayText (taken .text)
+  unfolding squeezedBy
+  what-day-prints taken = ap dayText (what-is-lent row last count true room taken) ∙ kept-day (taken .text)
 
-  pub what-import-prints : importText 24 (take count last) ≡ importText 24 (taken .text)
-  what-import-prints = ap (importText 24) what-is-lent ∙ kept-import 24 (taken .text)
+  pub what-import-prints : (taken : TakenIn row PIECES false last count) → importText (take count last) ≡ importText (taken .text)
+  unfolding squeezedBy
+  what-import-prints taken = ap importText (what-is-lent row last count false room taken) ∙ kept-import (taken .text)
+
+  -- ---- the text goes past the blocks of the day that the lent row says
+
+  abbrev GoesPast : (header : Bool) → List ℕ → (hours : ℕ) → Type 0
+  GoesPast header text hours = goesPast (afterAll row (atFirst PIECES) (squeezedBy (squeezeFirst header) text)) PIECES (hours + 1) ≡ true
+
+  goes-past : (header : Bool) (text : List ℕ) (said hours : ℕ) → GoesPast header text said → said ≡ hours
+      → isSome (restAfter (suc hours) (squeezedBy (squeezeFirst header) text)) ≡ true
+  goes-past header text said hours e same = rw (← add-one hours, ← same) (past-some row PIECES (said + 1) (squeezedBy (squeezeFirst header) text) e)
+
+  pub where-day-stops : (taken : TakenIn row PIECES true last count) → GoesPast true (taken .text) (frontOf (take count last) .hours)
+      → (t : List ℕ) → dayText (take count last) ≡ dayText (taken .text ++ t)
+  unfolding squeezedBy
+  where-day-stops taken past t =
+      let s = taken .text in
+      let few = ledger.no-day-is-longer s in
+      let kept = ledger.a-kept-sheet-is-settled-alike s PIECES (omega arith) in
+      let same = ap (λ (l : List ℕ). frontOf l .hours) (what-is-lent row last count true room taken) ∙ kept .hours in
+      let some = goes-past true s (frontOf (take count last) .hours) (frontOf s .hours) past same in
+      what-day-prints taken ∙ sym (append-day s t (ap isSome (sym (rest-squeezed (frontOf s .hours) s)) ∙ some))
+
+  pub where-import-stops : (taken : TakenIn row PIECES false last count) → GoesPast false (taken .text) (hoursIn (take count last))
+      → (t : List ℕ) → importText (take count last) ≡ importText (taken .text ++ t)
+  unfolding squeezedBy restAfter
+  where-import-stops taken past t =
+      let s = taken .text in
+      let kept = head-kept {got = keptOf (atFirst PIECES) s} {text = s} (piece-kept PIECES s 0 (omega arith)) in
+      let same = ap hoursIn (what-is-lent row last count false room taken) ∙ kept .hours in
+      what-import-prints taken ∙ sym (append-import s t (goes-past false s (hoursIn (take count last)) (hoursIn s) past same))

@@ -1,40 +1,51 @@
 -- Small texts that meet the conditions of the front page, with curves that differ, and its theorems said of them: none is empty. They are
 -- specs/Small.antt's: a block with a plain curve, with another price where none is needed, and with a longer curve.
 use mathlib.Core.Path.{_≡_, refl, sym, ap, _∙_}
-use mathlib.Core.Bool.{Bool, false}
-use mathlib.Core.List.{List, []}
+use mathlib.Core.Bool.{true, false}
+use mathlib.Core.List.{List, [], _++_}
 use Prim.Native.Nat.{ℕ, zero, suc, _<_}
 use native.Mathlib.Omega.{arith}
 use lib.IntN.{ℤ, pos}
+use lib.ListN.{replicate}
 use lib.Signed.{_≤ℤ_, _<ℤ_}
+use Rattle.exact.proofs.Apart.{impossible}
 use Rattle.exact.proofs.Parts.{arithℤ}
 use Rattle.figures.specs.Sample.{emptyCurve}
 use Rattle.tariff.specs.declared.Curve.{Curve}
 use Rattle.tariff.specs.declared.Hour.{Hour}
 use Rattle.tariff.specs.declared.Expected.{Expected}
 use Rattle.tariff.specs.declared.Expected.the-variants.{Any, Says}
-use Rattle.tariff.specs.Sheet.{endOf, priceOf}
+use Rattle.tariff.specs.Sheet.{isHour, endOf, priceOf}
 use Rattle.tariff.specs.Curve.{known, quote}
 use Rattle.tariff.specs.Reply.{paid, clear}
 use Rattle.tariff.specs.Eligible.{excluded}
-use Rattle.tariff.specs.Hour.{order, reply}
+use Rattle.tariff.specs.Hour.{hoursAround, order, reply}
 use Rattle.tariff.specs.Total.{Pays}
 use Rattle.tariff.specs.Demand.{Between, MustPrice, priceIn, Lawful, Extends}
 use Rattle.tariff.proofs.Demands.{paid-exactly-when-nothing-refuses, more-steps-extend}
-use Rattle.lines.specs.Pieces.{restAfter, piece}
+use Rattle.text.specs.Text.{LF, bytes}
+use Rattle.lines.specs.Cut.{behind}
+use Rattle.lines.specs.Pieces.{restAfter, firstPiece, piece, isSome}
 use Rattle.blocks.specs.Block.{Block, blockOf, read}
 use Rattle.sheet.specs.Settle.{replyTo}
 use Rattle.sheet.specs.Apart.{InThree, CurvesApart}
 use Rattle.header.specs.Header.{marksOf}
 use Rattle.ledger.specs.Day.{Front, frontOf, dayReply}
-use Rattle.ledger.specs.Demand.{BlocksApart, apart, PricedAlike, priced, DaysApart, BothRead}
+use Rattle.ledger.specs.Demand.{BlocksApart, same, apart, priced, DaysApart, BothRead}
 use Rattle.ledger.proofs.HourOfDay.{read-reply}
 use Rattle.ledger.proofs.SheetFront.{front-append}
 use Rattle.ledger.proofs.DayDemands.{sheets-with-one-header-are-apart}
-use Rattle.printed.specs.Printed.{hourText, dayText}
+use Rattle.imports.specs.Import.{countIn, hoursIn}
+use Rattle.printed.specs.Printed.{hourText, dayPage, dayText, importText}
 use Rattle.demands.specs.Small.{first, curves, rest, block, hour, header, day, plain, other, longer, plainRead, otherRead, longerRead}
 use Rattle.demands.proofs.Opened.{reading, cutting, judging, pricing, checking, settling}
-use Rattle.demands.proofs.Demands.{such-blocks-are-printed-alike, such-days-are-printed-alike, adding-curve-changes-no-byte-of-an-hour, adding-curve-to-a-day-never-moves-a-cent}
+use Rattle.demands.proofs.Demands.{
+  behind-the-last-block-no-byte-matters,
+  such-blocks-are-printed-alike,
+  such-days-are-printed-alike,
+  adding-curve-changes-no-byte-of-an-hour,
+}
+use Rattle.demands.proofs.Printed.{curve-added-to-a-day}
 
 -- ---- the texts: where the curve lines stand, what the block is read to, and that a day's body of this block is one piece
 
@@ -56,32 +67,36 @@ longer-stands : Stands longer longerRead
 unfolding reading cutting
 longer-stands = record { three = record { parts = refl; line1 = refl; lines23 = refl }; reads = refl; whole = refl; ends = refl }
 
-header-clear : frontOf 1 header .fault ≡ clear
+header-clear : frontOf header .fault ≡ clear
 unfolding judging
 header-clear = refl
 
-header-alone : frontOf 1 header .body ≡ []
+header-alone : frontOf header .body ≡ []
 unfolding judging
 header-alone = refl
 
-header-eligible : excluded 1 (marksOf 1 header) 0 ≡ false
+header-hours : frontOf header .hours ≡ 23
+unfolding judging
+header-hours = refl
+
+header-eligible : excluded (frontOf header .hours) (marksOf header) 0 ≡ false
 unfolding judging
 header-eligible = refl
 
 -- ---- no check from 1 to 4 refuses them, in `hour` or as block 0 of a day, and the first is paid
 
-module _ (expected : Expected) (asked : (c : Curve) → order (hour c) expected ≡ clear) where
+module _ (expected : Expected) (said : isHour (hoursAround expected) (pos 0) ≡ true) (asked : (c : Curve) → order (hour c) expected ≡ clear) where
   plain-clear : Lawful (hour plainRead) expected
   unfolding checking
-  plain-clear = record { form = refl; range = refl; order = asked plainRead; curves = refl }
+  plain-clear = record { form = refl; range = rw said; order = asked plainRead; curves = refl }
 
   other-clear : Lawful (hour otherRead) expected
   unfolding checking
-  other-clear = record { form = refl; range = refl; order = asked otherRead; curves = refl }
+  other-clear = record { form = refl; range = rw said; order = asked otherRead; curves = refl }
 
   longer-clear : Lawful (hour longerRead) expected
   unfolding checking
-  longer-clear = record { form = refl; range = refl; order = asked longerRead; curves = refl }
+  longer-clear = record { form = refl; range = rw said; order = asked longerRead; curves = refl }
 
   plain-paid : reply (hour plainRead) false expected 30 ≡ paid (pos 10800000) (pos 3)
   unfolding settling
@@ -93,9 +108,9 @@ any-hour : (c : Curve) → order (hour c) Any ≡ clear
 unfolding checking
 any-hour c = refl
 
-hour-0 : (c : Curve) → order (hour c) (Says (pos 0)) ≡ clear
+hour-0 : (hours : ℕ) (c : Curve) → order (hour c) (Says (pos 0) hours) ≡ clear
 unfolding checking
-hour-0 c = refl
+hour-0 hours c = refl
 
 -- ---- the prices: kilowatt 2 must be priced and no other, and its price is one; that of kilowatt 0 is not
 
@@ -142,62 +157,72 @@ extended = more-steps-extend plainRead longerRead refl (omega arith) steps
 unchanged : (c : Curve) → Extends c c
 unchanged c = record { keeps = λ k p e. e }
 
--- ---- two blocks, and two days of one hour
+no-block : (h : Hour) → blockOf [] ≡ read h → ⊥
+unfolding reading
+no-block h e = impossible cc
+
+-- ---- two blocks, two sheets of a day of 23 hours that have one, and two days of one hour
 
 same-read : (h g : Hour) → read h ≡ read g → h ≡ g
 same-read h g e = cc
 
--- the day's front is the header
-front-is : (da : List ℕ) → frontOf 1 (day da) ≡ record { fault = clear; hours = 1; isExcluded = excluded 1 (marksOf 1 header); body = block da }
-front-is da = front-append 1 header header-clear header-alone (block da)
+-- a sheet's front is its header
+front-is : (da : List ℕ)
+    → frontOf (day da)
+    ≡ record { fault = clear; hours = frontOf header .hours; isExcluded = excluded (frontOf header .hours) (marksOf header); body = block da }
+front-is da = front-append header header-clear header-alone (block da)
 
-eligible : frontOf 1 (day plain) .isExcluded 0 ≡ false
+eligible : frontOf (day plain) .isExcluded 0 ≡ false
 eligible = ap (λ (f : Front). f .isExcluded 0) (front-is plain) ∙ header-eligible
 
-day-reads : {da : List ℕ} {c : Curve} → Stands da c → blockOf (piece 0 (frontOf 1 (day da) .body)) ≡ read (hour c)
-day-reads {da} t = ap (λ (f : Front). blockOf (piece 0 (f .body))) (front-is da) ∙ ap blockOf (t .whole) ∙ t .reads
+-- a day of one hour, which is eligible
+abbrev oneHour : (da : List ℕ) → Front
+oneHour da = record { fault = clear; hours = 1; isExcluded = λ k. false; body = block da }
 
 module _ {da : List ℕ} {c : Curve} (t : Stands da c) where
   lines-apart : CurvesApart (block plain) (block da)
   lines-apart = record { first = first; curves = curves plain; others = curves da; rest = rest; one = plain-stands .three; other = t .three }
 
-  pieces-apart : (k : ℕ) → k < 1 → BlocksApart (piece k (block plain)) (piece k (block da))
-  pieces-apart zero u = rw (plain-stands .whole, t .whole) (apart lines-apart)
-  pieces-apart (suc k) u = absurd (omega arith)
+  -- behind the block stands nothing
+  none-behind : (k : ℕ) → restAfter (suc k) (block da) ≡ []
+  unfolding cutting
+  none-behind zero = t .ends
+  none-behind (suc k) = ap behind (none-behind k)
 
-  days-apart : DaysApart (frontOf 1 (day plain)) (frontOf 1 (day da))
-  days-apart =
-      sheets-with-one-header-are-apart 1 header (block plain) (block da) header-clear header-alone
-      pieces-apart (plain-stands .ends ∙ sym (t .ends))
+module _ {da : List ℕ} {c : Curve} (t : Stands da c) where
+  pieces-apart : (k : ℕ) → BlocksApart (piece k (block plain)) (piece k (block da))
+  pieces-apart zero = rw (plain-stands .whole, t .whole) (apart (lines-apart t))
+  pieces-apart (suc k) = same (ap firstPiece (none-behind plain-stands k ∙ sym (none-behind t k)))
 
-  -- what holds of the two records holds of what the days' blocks are read to
-  as-read : (P : ℕ → Hour → Hour → Type 0) → P 0 (hour plainRead) (hour c) → BothRead (frontOf 1 (day plain)) (frontOf 1 (day da)) P
-  as-read P p zero u h g x y =
-      let e : hour plainRead ≡ h = same-read _ _ (sym (day-reads plain-stands) ∙ x) in
-      let f : hour c ≡ g = same-read _ _ (sym (day-reads t) ∙ y) in
-      rw (← e, ← f) p
-  as-read P p (suc k) u h g x y = absurd (omega arith)
+  -- what holds of the two records holds of what the blocks of two such days are read to
+  module _ (f g : Front) (one : f .body ≡ block plain) (other : g .body ≡ block da) where
+    as-read : (P : ℕ → Hour → Hour → Type 0) → P 0 (hour plainRead) (hour c) → BothRead f g P
+    unfolding cutting
+    as-read P p zero u h j x y =
+        let e : hour plainRead ≡ h = same-read _ _ (sym (plain-stands .reads) ∙ ap blockOf (sym (plain-stands .whole)) ∙ rw one at x) in
+        let q : hour c ≡ j = same-read _ _ (sym (t .reads) ∙ ap blockOf (sym (t .whole)) ∙ rw other at y) in
+        rw (← e, ← q) p
+    as-read P p (suc k) u h j x y = absurd (no-block h (rw (one, none-behind plain-stands k) at x))
 
--- ---- a block that is paid, and a day whose header is clear and whose block is read and paid
+-- ---- a block that is paid, a sheet whose header is clear and whose block is read, and a day that is paid
 
 pub this-block-is-paid : Pays (replyTo (blockOf (block plain)) false Any 30)
 this-block-is-paid = record {
   sum = pos 10800000;
   cents = pos 3;
-  pays = ap (λ (b : Block). replyTo b false Any 30) (plain-stands .reads) ∙ plain-paid Any any-hour;
+  pays = ap (λ (b : Block). replyTo b false Any 30) (plain-stands .reads) ∙ plain-paid Any refl any-hour;
 }
 
-pub this-day-is-read : (frontOf 1 (day plain) .fault ≡ clear) × (blockOf (piece 0 (frontOf 1 (day plain) .body)) ≡ read (hour plainRead))
-this-day-is-read = (ap (λ (f : Front). f .fault) (front-is plain), day-reads plain-stands)
+pub this-sheet-is-read : (frontOf (day plain) .fault ≡ clear) × (frontOf (day plain) .hours ≡ 23)
+this-sheet-is-read = (ap (λ (f : Front). f .fault) (front-is plain), ap (λ (f : Front). f .hours) (front-is plain) ∙ header-hours)
 
-this-day-is-paid : (k : ℕ) → k < 1 → Pays (dayReply (frontOf 1 (day plain)) k)
+this-day-is-paid : (k : ℕ) → k < 1 → Pays (dayReply (oneHour plain) k)
 this-day-is-paid zero u = record {
   sum = pos 10800000;
   cents = pos 3;
   pays =
-      read-reply (frontOf 1 (day plain)) (this-day-is-read .0) 0 (hour plainRead) (this-day-is-read .1)
-      ∙ ap (λ (x : Bool). reply (hour plainRead) x (Says (pos 0)) 30) eligible
-      ∙ plain-paid (Says (pos 0)) hour-0;
+      read-reply (oneHour plain) refl 0 (hour plainRead) (ap blockOf (plain-stands .whole) ∙ plain-stands .reads)
+      ∙ plain-paid (Says (pos 0) 1) refl (hour-0 1);
 }
 this-day-is-paid (suc k) u = absurd (omega arith)
 
@@ -206,22 +231,62 @@ this-day-is-paid (suc k) u = absurd (omega arith)
 pub these-blocks-are-printed-alike : hourText (block plain) ≡ hourText (block other)
 these-blocks-are-printed-alike =
     such-blocks-are-printed-alike (block plain) (block other) (hour plainRead) (hour otherRead)
-    (lines-apart other-stands) (plain-stands .reads) (other-stands .reads) (plain-clear Any any-hour) (other-clear Any any-hour) agree
+    (lines-apart other-stands) (plain-stands .reads) (other-stands .reads) (plain-clear Any refl any-hour) (other-clear Any refl any-hour) agree
 
-pub these-days-are-printed-alike : dayText 1 (day plain) ≡ dayText 1 (day other)
-these-days-are-printed-alike =
-    such-days-are-printed-alike 1 (day plain) (day other) (days-apart other-stands)
-    (as-read other-stands (λ k h g. PricedAlike h g (frontOf 1 (day plain) .isExcluded k) (Says (pos k)))
-    (rw eligible (priced (plain-clear (Says (pos 0)) hour-0) (other-clear (Says (pos 0)) hour-0) agree)))
+pub these-sheets-are-printed-alike : dayText (day plain) ≡ dayText (day other)
+these-sheets-are-printed-alike =
+    such-days-are-printed-alike (day plain) (day other)
+    (sheets-with-one-header-are-apart header (block plain) (block other) header-clear header-alone
+    (λ k u. pieces-apart other-stands k)
+    (rw header-hours (none-behind plain-stands 22 ∙ sym (none-behind other-stands 22))))
+    (as-read other-stands (frontOf (day plain)) (frontOf (day other)) (body plain) (body other) _
+    (rw (eligible, this-sheet-is-read .1) (priced (plain-clear (Says (pos 0) 23) refl (hour-0 23)) (other-clear (Says (pos 0) 23) refl (hour-0 23)) agree)))
+  where
+    body : (da : List ℕ) → frontOf (day da) .body ≡ block da
+    body da = ap (λ (f : Front). f .body) (front-is da)
 
 pub curve-is-added-to-this-block : hourText (block plain) ≡ hourText (block longer)
 curve-is-added-to-this-block =
     adding-curve-changes-no-byte-of-an-hour (block plain) (block longer) (hour plainRead) (hour longerRead)
-    (lines-apart longer-stands) (plain-stands .reads) (longer-stands .reads) (longer-clear Any any-hour) extended (unchanged emptyCurve)
+    (lines-apart longer-stands) (plain-stands .reads) (longer-stands .reads) (longer-clear Any refl any-hour) extended (unchanged emptyCurve)
     this-block-is-paid
 
-pub curve-is-added-to-this-day : dayText 1 (day plain) ≡ dayText 1 (day longer)
+pub curve-is-added-to-this-day : dayPage (oneHour plain) ≡ dayPage (oneHour longer)
 curve-is-added-to-this-day =
-    adding-curve-to-a-day-never-moves-a-cent 1 (day plain) (day longer) (days-apart longer-stands) this-day-is-paid
-    (as-read longer-stands (λ k h g. Lawful g (Says (pos k)) × Extends (h .da) (g .da) × Extends (h .rt) (g .rt))
-    (longer-clear (Says (pos 0)) hour-0, extended, unchanged emptyCurve))
+    curve-added-to-a-day (oneHour plain) (oneHour longer) days-apart this-day-is-paid
+    (as-read longer-stands (oneHour plain) (oneHour longer) refl refl _
+    (longer-clear (Says (pos 0) 1) refl (hour-0 1), extended, unchanged emptyCurve))
+  where
+    days-apart : DaysApart (oneHour plain) (oneHour longer)
+    days-apart = record {
+      one-read = refl;
+      other-read = refl;
+      hours = refl;
+      excluded = λ k u. refl;
+      blocks = λ k u. pieces-apart longer-stands k;
+      surplus = none-behind plain-stands 0 ∙ sym (none-behind longer-stands 0);
+    }
+
+-- a sheet of 23 empty blocks and an import of 24, and a line feed behind the last
+abbrev longSheet : List ℕ
+longSheet = header ++ replicate 24 LF
+
+abbrev longImport : List ℕ
+longImport = bytes "import=1 cts=0\n\n" ++ replicate 25 LF
+
+long-hours : frontOf longSheet .hours ≡ 23
+long-hours = ap (λ (f : Front). f .hours) (front-append header header-clear header-alone (replicate 24 LF)) ∙ header-hours
+
+behind-this-sheet : isSome (restAfter 24 longSheet) ≡ true
+unfolding cutting
+behind-this-sheet = refl
+
+pub no-byte-matters-behind-this-sheet : (t : List ℕ) → dayText (longSheet ++ t) ≡ dayText longSheet
+no-byte-matters-behind-this-sheet t = behind-the-last-block-no-byte-matters longSheet t .0 (rw long-hours behind-this-sheet)
+
+behind-this-import : isSome (restAfter (suc (hoursIn longImport)) longImport) ≡ true
+unfolding cutting reading hoursIn countIn
+behind-this-import = refl
+
+pub no-byte-matters-behind-this-import : (t : List ℕ) → importText (longImport ++ t) ≡ importText longImport
+no-byte-matters-behind-this-import t = behind-the-last-block-no-byte-matters longImport t .1 behind-this-import

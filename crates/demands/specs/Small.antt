@@ -1,5 +1,5 @@
--- A small block, as bytes and as its record, and a day of this one hour: each of its four intervals must price kilowatt 2 alone. Its day-ahead
--- curve is left open, and there are three for it.
+-- A small block, as bytes and as its record, and a sheet of a day of 23 hours with this block alone: each of its four intervals must price
+-- kilowatt 2 alone. Its day-ahead curve is left open, and there are three for it.
 use mathlib.Core.List.{List, _∷_, _++_}
 use Prim.Native.Nat.{ℕ}
 use lib.IntN.{pos}
@@ -45,7 +45,9 @@ hour da =
 -- ---- the day
 
 abbrev pub header : List ℕ
-header = bytes "form=1\nunit=1\nrtc=0\ncat=1\nx1=0\nx2=0\nx3=0\nx4=0\nx5=0\nx6=0\n\n"
+header = bytes "form=2\nhours=23\nunit=1\nrtc=0\n"
+    ++ bytes "cat=11111111111111111111111\nx1=00000000000000000000000\nx2=00000000000000000000000\nx3=00000000000000000000000\n"
+    ++ bytes "x4=00000000000000000000000\nx5=00000000000000000000000\nx6=00000000000000000000000\n\n"
 
 abbrev pub day : (da : List ℕ) → List ℕ
 day da = header ++ block da

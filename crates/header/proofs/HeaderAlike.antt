@@ -1,86 +1,168 @@
--- Two texts whose headers have the same places, numbers and digits are judged as the same, and say the same marks.
-use mathlib.Core.Path.{_≡_, refl, _∙_, ap}
-use mathlib.Core.Bool.{true}
-use mathlib.Core.List.{List}
-use Prim.Native.Nat.{ℕ, suc, _≤_, _<_}
+-- Two texts of one layout and count whose headers' lines stand in both or in neither and say the same: they are judged as the same, and say the
+-- same marks.
+use mathlib.Core.Path.{_≡_, refl, sym, _∙_, ap, subst}
+use mathlib.Core.Bool.{Bool, true, false, false≢true}
+use mathlib.Core.List.{List, _++_}
+use Prim.Native.Nat.{ℕ, suc, _-_, _≤_, _<_}
 use native.Mathlib.Omega.{arith}
-use borrow.Author.Tests.{ltb-true}
-use lib.Dec.{ltb, eqb}
-use lib.IntN.{pos}
-use lib.ListN.{length}
+use lib.Dec.{eqb}
+use lib.IntN.{ℤ, pos}
+use lib.ListN.{length, replicate}
+use Rattle.exact.specs.Choice.{if_then_else_}
 use Rattle.exact.specs.Whole.{eqZ}
 use Rattle.exact.proofs.Sums.{up-same}
-use Rattle.tariff.specs.Sheet.{liesIn}
+use Rattle.tariff.specs.Sheet.{USUAL-DAY, LONGEST-DAY, isCount, hoursBy, liesIn}
 use Rattle.tariff.specs.Eligible.{marked}
-use Rattle.tariff.specs.Reply.{FORM, Verdict, clear, fault, unless, _then_}
-use Rattle.tariff.proofs.Checks.{first-same}
+use Rattle.tariff.specs.Reply.{FORM, RANGE, Verdict, clear, fault, unless, _then_}
+use Rattle.tariff.proofs.Checks.{first-same, then-clear}
 use Rattle.tariff.proofs.Tests.{all-same}
 use Rattle.text.specs.declared.Next.{Next}
-use Rattle.keys.specs.Keys.{RTC-LINE, CAT-LINE, X1-LINE, X2-LINE, X3-LINE, X4-LINE, X5-LINE, X6-LINE}
-use Rattle.lines.specs.Line.{isAt}
+use Rattle.keys.specs.Keys.{HOURS-LINE, RTC-LINE, CAT-LINE}
+use Rattle.lines.specs.Line.{isAt, andThen}
 use Rattle.marks.proofs.Rows.{word-same}
 use Rattle.header.specs.declared.layout.Line.{Line}
-use Rattle.header.specs.declared.layout.Line.the-variants.{Number, Row, Close}
-use Rattle.header.specs.Layout.{lineIn, linePlace, numberFrom, digitFrom, lineInRange, layoutForm, layoutRange, layoutFault, lineOf, numberOn, digitOn}
-use Rattle.header.specs.Header.{form1, headerFault, rowWord, marksOf, marksUnder}
+use Rattle.header.specs.declared.layout.Line.the-variants.{Number, Row, Run, Close}
+use Rattle.header.specs.Layout.{lineIn, headerLine, linePlace, numberFrom, digitFrom, lineInRange, layoutForm, layoutRange, layoutFault, lineOf, numberOn, digitOn}
+use Rattle.header.specs.Header.{form2, layoutBy, isForm2, countOf, layoutOf, hoursOf, headerFault, rowWord, marksBy, marksUnder}
+use Rattle.header.proofs.HeaderLines.{none-refused, isPlaced}
+use Rattle.header.proofs.Forms.{RowOn, rows-behind, clear-counted}
 
--- a line says the same from a place of each text on
+-- a line says the same from a place of each text on: a row does where it is as printed, and the length of a run is its own
 abbrev pub SaysSame : (hours : ℕ) → Line → (s t : List ℕ) → (x y : Next) → Type 0
 SaysSame hours (Number key least most) s t x y = numberFrom key s x ≡ numberFrom key t y
-SaysSame hours (Row key admitted) s t x y = (h : ℕ) → h < hours → digitFrom key s x h ≡ digitFrom key t y h
+SaysSame hours (Row key admitted) s t x y =
+    isAt (andThen x (headerLine hours (Row key admitted) s)) ≡ true → (h : ℕ) → h < hours → digitFrom key s x h ≡ digitFrom key t y h
+SaysSame hours (Run key) s t x y = Unit {0}
 SaysSame hours Close s t x y = Unit {0}
 
 pub record Alike (layout : List Line) (hours : ℕ) (s t : List ℕ) : Type 0 where
-  pub places : (j : ℕ) → j ≤ length layout → linePlace layout hours j s ≡ linePlace layout hours j t
+  pub placed : (j : ℕ) → j ≤ length layout → isAt (linePlace layout hours j s) ≡ isAt (linePlace layout hours j t)
   pub says : (j : ℕ) → j < length layout → SaysSame hours (lineIn layout j) s t (linePlace layout hours j s) (linePlace layout hours j t)
 
 -- ---- the two checks
-pub form-same : (layout : List Line) (hours : ℕ) (s t : List ℕ) → ((j : ℕ) → j ≤ length layout → linePlace layout hours j s ≡ linePlace layout hours j t)
-    → layoutForm layout hours s ≡ layoutForm layout hours t
-unfolding layoutForm
-form-same layout hours s t places = first-same _ _ (length layout) (λ j u. ap (λ (x : Next). unless (isAt x) FORM (suc j)) (places (suc j) (omega arith)))
-
-range-same : (hours : ℕ) (line : Line) (s t : List ℕ) (x y : Next) → SaysSame hours line s t x y → lineInRange hours line s x ≡ lineInRange hours line t y
+range-same : (hours : ℕ) (line : Line) (s t : List ℕ) (x y : Next) → isAt (andThen x (headerLine hours line s)) ≡ true → SaysSame hours line s t x y
+    → lineInRange hours line s x ≡ lineInRange hours line t y
 unfolding lineInRange
-range-same hours (Number key least most) s t x y e = ap (liesIn least most) e
-range-same hours (Row key admitted) s t x y e = all-same _ _ hours (λ h u. ap (marked admitted) (e h u))
-range-same hours Close s t x y e = refl
+range-same hours (Number key least most) s t x y p e = ap (liesIn least most) e
+range-same hours (Row key admitted) s t x y p e = all-same _ _ hours (λ h u. ap (marked admitted) (e p h u))
+range-same hours (Run key) s t x y p e = refl
+range-same hours Close s t x y p e = refl
 
-pub fault-alike : {layout : List Line} {hours : ℕ} {s t : List ℕ} → Alike layout hours s t → layoutFault layout hours s ≡ layoutFault layout hours t
-unfolding layoutRange
-fault-alike {layout} {hours} {s} {t} o =
-    let range : layoutRange layout hours s ≡ layoutRange layout hours t =
-    first-same _ _ (length layout) (λ j u. rw (range-same hours (lineIn layout j) s t _ _ (o .says j u)))
-    in
-    λ i. form-same layout hours s t (o .places) i then range i
+-- each line of a header without a fault of form is as printed
+pub form-line : (layout : List Line) (hours : ℕ) (s : List ℕ) → layoutForm layout hours s ≡ clear → (j : ℕ) → j < length layout → isPlaced layout hours s j ≡ true
+unfolding layoutForm
+form-line layout hours s e = none-refused (isPlaced layout hours s) FORM (length layout) e
 
--- ---- the marks
-module _ {hours : ℕ} {s t : List ℕ} (o : Alike form1 hours s t) where
-  -- what stands behind a key of the layout
-  said : (key : ℕ) → ltb (lineOf key form1) (length form1) ≡ true
-      → SaysSame hours (lineIn form1 (lineOf key form1)) s t (linePlace form1 hours (lineOf key form1) s) (linePlace form1 hours (lineOf key form1) t)
-  said key e = o .says (lineOf key form1) (ltb-true (lineOf key form1) (length form1) e)
+module _ {layout : List Line} {hours : ℕ} {s t : List ℕ} (o : Alike layout hours s t) where
+  form-same : layoutForm layout hours s ≡ layoutForm layout hours t
+  unfolding layoutForm
+  form-same = first-same _ _ (length layout) (λ j u. ap (λ (b : Bool). unless b FORM (suc j)) (o .placed (suc j) u))
 
-  row-alike : (key : ℕ) → ((h : ℕ) → h < hours → digitOn form1 hours key s h ≡ digitOn form1 hours key t h) → rowWord hours key s ≡ rowWord hours key t
+  ranges-same : layoutForm layout hours s ≡ clear → layoutRange layout hours s ≡ layoutRange layout hours t
+  unfolding layoutRange linePlace
+  ranges-same e =
+      first-same _ _ (length layout)
+      (λ j u. ap (λ (b : Bool). unless b RANGE (suc j)) (range-same hours (lineIn layout j) s t _ _ (form-line layout hours s e j u) (o .says j u)))
+
+  pub fault-alike : layoutFault layout hours s ≡ layoutFault layout hours t
+  fault-alike = go (layoutForm layout hours s) refl
+    where
+      go : (v : Verdict) → layoutForm layout hours s ≡ v → layoutFault layout hours s ≡ layoutFault layout hours t
+      go clear e = let range = ranges-same e in λ i. form-same i then range i
+      go (fault number place) e =
+          ap (λ (v : Verdict). v then layoutRange layout hours s) e
+          ∙ sym (ap (λ (v : Verdict). v then layoutRange layout hours t) (sym form-same ∙ e))
+
+-- ---- the marks, where the rows are judged
+rtc-on : (two : Bool) → Number RTC-LINE (pos 0) (pos 1) ≡ lineIn (layoutBy two true) (lineOf RTC-LINE (layoutBy two true))
+rtc-on true = refl
+rtc-on false = refl
+
+module _ (two : Bool) {hours : ℕ} {s t : List ℕ} (o : Alike (layoutBy two true) hours s t) (form : layoutForm (layoutBy two true) hours s ≡ clear) where
+  abbrev layout : List Line
+  layout = layoutBy two true
+
+  said : (j : ℕ) {line : Line} → line ≡ lineIn layout j → j < length layout → SaysSame hours line s t (linePlace layout hours j s) (linePlace layout hours j t)
+  said j is u = subst (λ (line : Line). SaysSame hours line s t (linePlace layout hours j s) (linePlace layout hours j t)) (sym is) (o .says j u)
+
+  digits-said : {key admitted j : ℕ} → RowOn two key admitted j → j < length layout → (h : ℕ) → h < hours → digitOn layout hours key s h ≡ digitOn layout hours key t h
+  unfolding digitOn linePlace
+  digits-said {key} {j = j} is u =
+      let row = ap (λ (line : Line). isAt (andThen (linePlace layout hours j s) (headerLine hours line s))) (is .0) ∙ form-line layout hours s form j u in
+      subst (λ (k : ℕ). (h : ℕ) → h < hours → digitFrom key s (linePlace layout hours k s) h ≡ digitFrom key t (linePlace layout hours k t) h) (is .1)
+      (said j (is .0) u row)
+
+  word-said : {key admitted j : ℕ} → RowOn two key admitted j → j < length layout → rowWord layout hours key s ≡ rowWord layout hours key t
   unfolding rowWord
-  row-alike key e = word-same _ _ hours (λ h u. ap (λ (d : ℕ). eqb d 1) (e h u))
+  word-said is u = word-same _ _ hours (λ h l. ap (λ (d : ℕ). eqb d 1) (digits-said is u h l))
 
-  marks-alike : marksOf hours s ≡ marksOf hours t
-  unfolding marksOf numberOn digitOn
-  marks-alike =
-      let rtc = said RTC-LINE refl in
-      let cat = up-same (digitOn form1 hours CAT-LINE s) (digitOn form1 hours CAT-LINE t) hours (said CAT-LINE refl) in
-      let x1 = row-alike X1-LINE (said X1-LINE refl) in
-      let x2 = row-alike X2-LINE (said X2-LINE refl) in
-      let x3 = row-alike X3-LINE (said X3-LINE refl) in
-      let x4 = row-alike X4-LINE (said X4-LINE refl) in
-      let x5 = row-alike X5-LINE (said X5-LINE refl) in
-      let x6 = row-alike X6-LINE (said X6-LINE refl) in
-      λ i. record { rtc = eqZ (rtc i) (pos 1); cat = cat i; x1 = x1 i; x2 = x2 i; x3 = x3 i; x4 = x4 i; x5 = x5 i; x6 = x6 i }
+  marks-said : marksBy layout hours s ≡ marksBy layout hours t
+  unfolding marksBy numberOn
+  marks-said =
+      let r = rows-behind two refl in
+      let all = r .all in
+      let rtc = said (lineOf RTC-LINE layout) (rtc-on two) (omega arith) in
+      let cat = up-same (digitOn layout hours CAT-LINE s) (digitOn layout hours CAT-LINE t) hours (digits-said (r .cat) (omega arith)) in
+      let x1 = word-said (r .x1) (omega arith) in
+      let x2 = word-said (r .x2) (omega arith) in
+      let x3 = word-said (r .x3) (omega arith) in
+      let x4 = word-said (r .x4) (omega arith) in
+      let x5 = word-said (r .x5) (omega arith) in
+      let x6 = word-said (r .x6) (omega arith) in
+      λ i. record {
+        rtc = eqZ (rtc i) (pos 1);
+        cat = cat i ++ replicate (LONGEST-DAY - hours) 0;
+        x1 = x1 i;
+        x2 = x2 i;
+        x3 = x3 i;
+        x4 = x4 i;
+        x5 = x5 i;
+        x6 = x6 i;
+      }
 
-  under : (v : Verdict) → marksUnder v hours s ≡ marksUnder v hours t
-  under clear = marks-alike
-  under (fault number place) = refl
+-- ---- the header
+pub record SameHeader (s t : List ℕ) : Type 0 where
+  pub fault : headerFault s ≡ headerFault t
+  pub hours : hoursOf s ≡ hoursOf t
+  pub marks : marksUnder (headerFault s) s ≡ marksUnder (headerFault t) t
 
-  pub marks-under-alike : marksUnder (headerFault hours s) hours s ≡ marksUnder (headerFault hours t) hours t
-  marks-under-alike = under (headerFault hours s) ∙ ap (λ (v : Verdict). marksUnder v hours t) (fault-alike o)
+pub same-turned : {s t : List ℕ} → SameHeader s t → SameHeader t s
+same-turned o = record { fault = sym (o .fault); hours = sym (o .hours); marks = sym (o .marks) }
+
+pub same-then : {s t u : List ℕ} → SameHeader s t → SameHeader t u → SameHeader s u
+same-then o r = record { fault = o .fault ∙ r .fault; hours = o .hours ∙ r .hours; marks = o .marks ∙ r .marks }
+
+pub same-text : {s t : List ℕ} → s ≡ t → SameHeader s t
+same-text e = record { fault = ap headerFault e; hours = ap hoursOf e; marks = ap (λ (x : List ℕ). marksUnder (headerFault x) x) e }
+
+module _ {s t : List ℕ} (two : isForm2 s ≡ isForm2 t) (count : countOf s ≡ countOf t) (o : Alike (layoutOf s) (hoursOf s) s t) where
+  fault-same : headerFault s ≡ headerFault t
+  fault-same = fault-alike o ∙ (λ i. layoutFault (layoutBy (two i) (isCount (count i))) (hoursBy (count i)) t)
+
+  marks-judged : (judged : Bool) → judged ≡ true → {hours : ℕ} → Alike (layoutBy (isForm2 s) judged) hours s t
+      → layoutForm (layoutBy (isForm2 s) judged) hours s ≡ clear → marksBy (layoutBy (isForm2 s) judged) hours s ≡ marksBy (layoutBy (isForm2 s) judged) hours t
+  marks-judged true j alike form = marks-said (isForm2 s) alike form
+  marks-judged false j alike form = absurd (false≢true j)
+
+  marks-same : (v : Verdict) → headerFault s ≡ v → marksUnder v s ≡ marksUnder v t
+  marks-same clear e =
+      let checks = then-clear (layoutForm (layoutOf s) (hoursOf s) s) (layoutRange (layoutOf s) (hoursOf s) s) e in
+      marks-judged (isCount (countOf s)) (clear-counted s (checks .1)) o (checks .0)
+      ∙ (λ i. marksBy (layoutBy (two i) (isCount (count i))) (hoursBy (count i)) t)
+  marks-same (fault number place) e = refl
+
+  pub alike-header : SameHeader s t
+  alike-header =
+      record {
+        fault = fault-same;
+        hours = ap hoursBy count;
+        marks = marks-same (headerFault s) refl ∙ ap (λ (v : Verdict). marksUnder v t) fault-same;
+      }
+
+-- the first two lines decide the layout and the count
+pub kind-alike : {s t : List ℕ} → Alike (form2 false) 0 s t → (isForm2 s ≡ isForm2 t) × (countOf s ≡ countOf t)
+unfolding numberOn linePlace
+kind-alike {s} {t} o =
+    let two : isForm2 s ≡ isForm2 t = ap (λ (z : ℤ). eqZ z (pos 2)) (o .says 0 (omega arith)) in
+    let count : numberOn (form2 false) 0 HOURS-LINE s ≡ numberOn (form2 false) 0 HOURS-LINE t = o .says 1 (omega arith) in
+    (two, λ i. if two i then count i else pos USUAL-DAY)

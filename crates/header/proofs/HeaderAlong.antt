@@ -13,7 +13,7 @@ use Rattle.lines.specs.Line.{placeIn}
 use Rattle.lines.specs.Cut.{emptyIn}
 use Rattle.lines.specs.Pieces.{firstPiece}
 use Rattle.lines.proofs.Along.{never-at}
-use Rattle.header.specs.Header.{headerFault, marksOf, nextUnder}
+use Rattle.header.specs.Header.{hoursOf, headerFault, marksOf, nextUnder}
 use Rattle.header.proofs.HeaderBehind.{clear-empty}
 use Rattle.header.proofs.HeaderFirst.{SameHeader, first-header}
 
@@ -31,20 +31,22 @@ empty-append start (b ∷ x) body i k = go (eqb b 10) start (λ s. empty-append 
     go false begins more e = more false e
 
 -- ---- a header and what follows it
-module _ (hours : ℕ) (head : List ℕ) (e : headerFault hours head ≡ clear)
-    (n : nextUnder (headerFault hours head) hours head ≡ length head) (body : List ℕ) where
+module _ (head : List ℕ) (e : headerFault head ≡ clear) (n : nextUnder (headerFault head) head ≡ length head) (body : List ℕ) where
   ends : emptyIn true (head ++ body) 0 ≡ At (length head)
-  ends = empty-append true head body 0 (length head) (clear-empty hours head e ∙ ap At n)
+  ends = empty-append true head body 0 (length head) (clear-empty head e ∙ ap At n)
 
-  same : SameHeader hours (head ++ body) head
+  same : SameHeader (head ++ body) head
   unfolding firstPiece
-  same = rw (ends, take-append-seam head body) at (first-header hours (head ++ body))
+  same = rw (ends, take-append-seam head body) at (first-header (head ++ body))
 
-  pub fault-append : headerFault hours (head ++ body) ≡ clear
+  pub fault-append : headerFault (head ++ body) ≡ clear
   fault-append = same .fault ∙ e
 
-  pub marks-append : marksOf hours (head ++ body) ≡ marksOf hours head
+  pub hours-append : hoursOf (head ++ body) ≡ hoursOf head
+  hours-append = same .hours
+
+  pub marks-append : marksOf (head ++ body) ≡ marksOf head
   marks-append = rw (fault-append, e) at (same .marks)
 
-  pub next-append : nextUnder (headerFault hours (head ++ body)) hours (head ++ body) ≡ length head
-  next-append = ap placeIn (sym (clear-empty hours (head ++ body) fault-append) ∙ ends)
+  pub next-append : nextUnder (headerFault (head ++ body)) (head ++ body) ≡ length head
+  next-append = ap placeIn (sym (clear-empty (head ++ body) fault-append) ∙ ends)

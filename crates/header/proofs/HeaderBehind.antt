@@ -1,6 +1,6 @@
 -- Behind a header without fault stands what stands behind the first empty line of its text.
 use mathlib.Core.Path.{_≡_, refl, sym, _∙_, ap}
-use mathlib.Core.Bool.{Bool, true, false, false≢true}
+use mathlib.Core.Bool.{Bool, true, false, _&&_, false≢true}
 use mathlib.Core.List.{List}
 use Prim.Native.Nat.{ℕ, zero, suc, _+_, _≤_, _<_}
 use native.Mathlib.Nat.{add-zero}
@@ -8,24 +8,25 @@ use native.Mathlib.Omega.{arith}
 use borrow.Author.Tests.{ltb-true}
 use lib.Dec.{ltb}
 use lib.ListN.{drop, length}
-use Rattle.tariff.specs.Sheet.{allTo}
+use Rattle.tariff.specs.Sheet.{LONGEST-DAY, isCount, allTo}
 use Rattle.tariff.specs.Reply.{clear}
-use Rattle.tariff.proofs.Tests.{all-at}
+use Rattle.tariff.proofs.Tests.{all-at, and-left, and-right}
 use Rattle.text.specs.Text.{byteAt}
 use Rattle.text.specs.declared.Next.{Next}
 use Rattle.text.specs.declared.Next.the-variants.{At, Wrong}
 use Rattle.keys.specs.Keys.{KEYS, keys, keyOf}
 use Rattle.lines.specs.Line.{lineFeed}
 use Rattle.lines.specs.Cut.{emptyIn, behind}
+use Rattle.lines.specs.Squeezed.{RUN}
 use Rattle.lines.proofs.Along.{closing, never-at}
 use Rattle.keys.proofs.AllKeys.{table-at}
 use Rattle.lines.proofs.Ended.{opens, key-closed, fields-closed}
 use Rattle.lines.proofs.Cut.{behind-at}
 use Rattle.lines.proofs.Passed.{feed-empty, pass}
 use Rattle.header.specs.declared.layout.Line.{Line}
-use Rattle.header.specs.declared.layout.Line.the-variants.{Number, Row, Close}
+use Rattle.header.specs.declared.layout.Line.the-variants.{Number, Row, Run, Close}
 use Rattle.header.specs.Layout.{lineIn, rowAt, saidAt, headerLine, linePlace, layoutForm}
-use Rattle.header.specs.Header.{form1, headerFault, nextUnder}
+use Rattle.header.specs.Header.{form1, form2, layoutBy, isForm2, countOf, layoutOf, hoursOf, headerFault, nextUnder}
 use Rattle.header.proofs.HeaderLines.{close-line, startOf}
 use Rattle.header.proofs.HeaderEnds.{form-clear, line-read, read-ends}
 
@@ -33,28 +34,55 @@ use Rattle.header.proofs.HeaderEnds.{form-clear, line-read, read-ends}
 abbrev pub opensLine : Line → Bool
 opensLine (Number key least most) = ltb key KEYS
 opensLine (Row key admitted) = ltb key KEYS
+opensLine (Run key) = ltb key KEYS
 opensLine Close = false
 
-key-opens : (key : ℕ) → ltb key KEYS ≡ true → opens (keyOf key) ≡ true
+pub key-opens : (key : ℕ) → ltb key KEYS ≡ true → opens (keyOf key) ≡ true
 key-opens key e = table-at opens keys key (ltb-true key KEYS e) refl
 
 pub line-closed : (hours : ℕ) (line : Line) (s : List ℕ) (at : ℕ) → opensLine line ≡ true → closing (byteAt s at) ≡ true → headerLine hours line s at ≡ Wrong
 unfolding headerLine saidAt rowAt
 line-closed hours (Number key least most) s at o c = rw (fields-closed s at c key 0 (key-opens key o))
 line-closed hours (Row key admitted) s at o c = rw (key-closed s at c (keyOf key) (key-opens key o))
+line-closed hours (Run key) s at o c = rw (key-closed s at c (keyOf key) (key-opens key o))
 line-closed hours Close s at o c = absurd (false≢true o)
+
+-- a row of the longest day, with its key and its end, is no longer than the runs that stand in a squeezed text
+abbrev pub isShort : Line → Bool
+isShort (Number key least most) = true
+isShort (Row key admitted) = ltb (length (keyOf key) + LONGEST-DAY) RUN
+isShort (Run key) = true
+isShort Close = true
 
 -- ---- a layout of such lines, and behind them the closing one
 pub record Closed (layout : List Line) : Type 0 where
   pub last : ℕ
   pub long : length layout ≡ suc last
+  pub few : last ≤ 11
   pub front : (j : ℕ) → j < last → opensLine (lineIn layout j) ≡ true
+  pub short : (j : ℕ) → j < last → isShort (lineIn layout j) ≡ true
   pub close : lineIn layout last ≡ Close
 
-pub form1-closed : Closed form1
+abbrev isFront : Line → Bool
+isFront line = opensLine line && isShort line
+
+closed : (layout : List Line) (last : ℕ) → length layout ≡ suc last → last ≤ 11 → allTo (λ j. isFront (lineIn layout j)) last ≡ true → lineIn layout last ≡ Close → Closed layout
+closed layout last long few front close =
+    let at : (j : ℕ) → j < last → isFront (lineIn layout j) ≡ true = λ j u. all-at (λ k. isFront (lineIn layout k)) last j front u in
+    record {
+      last = last;
+      long = long;
+      few = few;
+      close = close;
+      front = λ j u. and-left (opensLine (lineIn layout j)) (isShort (lineIn layout j)) (at j u);
+      short = λ j u. and-right (opensLine (lineIn layout j)) (isShort (lineIn layout j)) (at j u);
+    }
+
+pub layout-closed : (two judged : Bool) → Closed (layoutBy two judged)
 unfolding allTo
-form1-closed =
-    record { last = 10; long = refl; front = λ j u. all-at (λ k. opensLine (lineIn form1 k)) 10 j refl u; close = refl }
+layout-closed false judged = closed form1 10 refl (omega arith) refl refl
+layout-closed true true = closed (form2 true) 11 refl (omega arith) refl refl
+layout-closed true false = closed (form2 false) 11 refl (omega arith) refl refl
 
 -- ---- a header's lines, one by one
 module _ (layout : List Line) (o : Closed layout) (hours : ℕ) (s : List ℕ) (e : layoutForm layout hours s ≡ clear) where
@@ -90,8 +118,9 @@ module _ (layout : List Line) (o : Closed layout) (hours : ℕ) (s : List ℕ) (
   unfolding from linePlace
   first-empty = rw (o .long) (lines-passed (o .last) (omega arith) ∙ feed-empty s _ _ close-read)
 
-pub clear-empty : (hours : ℕ) (s : List ℕ) → headerFault hours s ≡ clear → emptyIn true s 0 ≡ At (nextUnder (headerFault hours s) hours s)
-clear-empty hours s e = rw e (first-empty form1 form1-closed hours s (form-clear form1 hours s e))
+pub clear-empty : (s : List ℕ) → headerFault s ≡ clear → emptyIn true s 0 ≡ At (nextUnder (headerFault s) s)
+clear-empty s e =
+    rw e (first-empty (layoutOf s) (layout-closed (isForm2 s) (isCount (countOf s))) (hoursOf s) s (form-clear (layoutOf s) (hoursOf s) s e))
 
-pub clear-behind : (hours : ℕ) (s : List ℕ) → headerFault hours s ≡ clear → drop (nextUnder (headerFault hours s) hours s) s ≡ behind s
-clear-behind hours s e = behind-at s 0 _ (clear-empty hours s e)
+pub clear-behind : (s : List ℕ) → headerFault s ≡ clear → drop (nextUnder (headerFault s) s) s ≡ behind s
+clear-behind s e = behind-at s 0 _ (clear-empty s e)

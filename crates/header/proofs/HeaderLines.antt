@@ -11,7 +11,7 @@ use lib.IntN.{ℤ}
 use lib.ListN.{getD, set, replicate, length}
 use Rattle.exact.specs.Whole.{upTo}
 use Rattle.exact.proofs.Tests.{and-left, and-right}
-use Rattle.tariff.specs.Reply.{FORM, RANGE, Verdict, clear, fault, unless, _then_, firstOf}
+use Rattle.tariff.specs.Reply.{FORM, RANGE, Verdict, clear, fault, unless, firstOf}
 use Rattle.tariff.proofs.Checks.{unless-clear, first-clear, clear-first, fault-first}
 use Rattle.text.specs.declared.Next.{Next}
 use Rattle.text.specs.declared.Next.the-variants.{At, Wrong}
@@ -22,8 +22,8 @@ use Rattle.lines.specs.Line.{isAt, placeIn, andThen, filled, fieldsAt, lineFeed
 use Rattle.lines.proofs.Fill.{filled-at, fill-next}
 use Rattle.lines.proofs.Lines.{is-line, fields-read}
 use Rattle.header.specs.declared.layout.Line.{Line}
-use Rattle.header.specs.declared.layout.Line.the-variants.{Number, Row, Close}
-use Rattle.header.specs.Layout.{lineIn, digitsAt, rowAt, saidAt, headerLine, linePlace, lineInRange, layoutForm, layoutRange, layoutFault}
+use Rattle.header.specs.declared.layout.Line.the-variants.{Number, Row, Run, Close}
+use Rattle.header.specs.Layout.{lineIn, digitsAt, rowAt, behindRun, saidAt, headerLine, linePlace, lineInRange, layoutForm, layoutRange, layoutFault}
 use Rattle.header.specs.Places.{isKeyed, Stands, Placed, refusedAt}
 
 -- ---- a place that is found
@@ -57,6 +57,11 @@ module _ (hours : ℕ) {line : Line} (s : List ℕ) (at : ℕ) where
       → digits ≡ andThen start (digitsAt hours s) → r ≡ andThen digits (lineFeed s) → r ≡ headerLine hours line s at
   unfolding headerLine saidAt rowAt
   row-line is p q e = rw is (e ∙ ap (λ (x : Next). andThen x (lineFeed s)) (q ∙ ap (λ (x : Next). andThen x (digitsAt hours s)) p))
+
+  pub run-line : {key : ℕ} {start past r : Next} → line ≡ Run key → start ≡ keyAt (keyOf key) s at
+      → past ≡ andThen start (behindRun s) → r ≡ andThen past (lineFeed s) → r ≡ headerLine hours line s at
+  unfolding headerLine saidAt
+  run-line is p q e = rw is (e ∙ ap (λ (x : Next). andThen x (lineFeed s)) (q ∙ ap (λ (x : Next). andThen x (behindRun s)) p))
 
   -- the closing line is a line feed alone
   pub close-line : line ≡ Close → headerLine hours line s at ≡ lineFeed s at
@@ -173,6 +178,9 @@ module _ (layout : List Line) (hours : ℕ) (s : List ℕ) (broken : ℕ) (form 
   module _ (whole : broken ≡ 0) (odd : ℕ) (range : refusedAt RANGE odd ≡ layoutRange layout hours s) where
     pub range-refuses : (odd ≡ 0 → ⊥) → layoutFault layout hours s ≡ fault RANGE odd
     range-refuses u = rw (← form, eq-eqb broken 0 whole, ← range, ne-eqb odd 0 u)
+
+    pub range-clear : odd ≡ 0 → layoutRange layout hours s ≡ clear
+    range-clear u = rw (← range, eq-eqb odd 0 u)
 
     pub none-refuses : odd ≡ 0 → layoutFault layout hours s ≡ clear
     none-refuses u = rw (← form, eq-eqb broken 0 whole, ← range, eq-eqb odd 0 u)

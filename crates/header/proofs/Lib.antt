@@ -1,13 +1,18 @@
--- Laws that the proofs of the crate's functions cite. For callers: where a header without fault ends (HeaderEnds), that its first bytes
--- decide it (HeaderLocal), whatever follows it (HeaderAlong), that it ends at the first empty line (HeaderBehind), and that any header is judged
--- by what stands up to that line (HeaderFirst).
+-- Laws that the proofs of the crate's functions cite. For callers: where a header without fault ends (HeaderEnds), whatever follows it
+-- (HeaderAlong), that it ends at the first empty line (HeaderBehind), that any header is judged by what stands up to that line (HeaderFirst), as in
+-- a squeezed text (HeaderSqueezed), and by the first bytes of that (HeaderLocal).
 pub mod Digits
 pub mod HeaderLines
 pub mod Said
+pub mod Forms
 pub mod HeaderAlike
-pub mod HeaderLocal
+pub mod HeaderPlaced
 pub mod HeaderEnds
 pub mod HeaderBehind
+pub mod HeaderSame
 pub mod HeaderFirst
 pub mod HeaderAlong
+pub mod HeaderSqueezed
+pub mod HeaderLocal
+pub mod HeaderCounts
 pub mod Unique

@@ -1,11 +1,10 @@
 -- What the lines of a header say: the digits of a row, the ranges, and the marks behind their keys.
 use mathlib.Core.Path.{_≡_, refl, sym, _∙_, ap, fun-ext}
 use mathlib.Core.Bool.{Bool, true, false≢true}
-use mathlib.Core.List.{List, append-nil}
+use mathlib.Core.List.{List}
 use Prim.Native.Nat.{ℕ, _+_, _≤_, _<_}
 use native.Mathlib.Omega.{arith}
-use borrow.Author.Tests.{leb-true}
-use lib.Dec.{leb, eqb, lit<}
+use lib.Dec.{eqb, lit<}
 use lib.IntN.{ℤ}
 use lib.ListN.{getD, length}
 use Rattle.exact.specs.Choice.{if_then_else_}
@@ -24,8 +23,8 @@ use Rattle.marks.specs.Word.{word}
 use Rattle.header.specs.declared.layout.Line.{Line}
 use Rattle.header.specs.declared.layout.Line.the-variants.{Number, Row}
 use Rattle.header.specs.Layout.{digitsAt, rowAt, saidAt, headerLine, linePlace, numberFrom, digitIn, digitFrom, lineInRange, lineOf, numberOn, digitOn}
-use Rattle.header.specs.Header.{form1, rowWord, marksOf}
-use Rattle.header.specs.Places.{Placed, marksHeld}
+use Rattle.header.specs.Header.{rowWord}
+use Rattle.header.specs.Places.{Placed}
 use Rattle.header.proofs.HeaderLines.{is-at, is-at-first, is-at-then}
 use Rattle.header.proofs.Digits.{isDigit}
 
@@ -94,26 +93,22 @@ module _ (hours : ℕ) {line : Line} (s : List ℕ) (at : ℕ) {key admitted : �
   unfolding lineInRange
   row-range e = rw is (e ∙ ap (λ (f : ℕ → ℕ). allTo (λ h. marked admitted (f h)) hours) (digits-are hours key admitted s at row-printed start p))
 
--- ---- the marks, each behind its key, whose line has a place that was told
-module _ (hours : ℕ) (s at : List ℕ) (p : Placed form1 hours s at) (key : ℕ) (u : leb (lineOf key form1) (length form1) ≡ true) where
+-- ---- what stands behind a key, whose line has a place that was told
+module _ (layout : List Line) (hours : ℕ) (s at : List ℕ) (p : Placed layout hours s at) (key : ℕ) {j : ℕ} (is : j ≡ lineOf key layout) (u : j ≤ length layout) where
   abbrev pub toldAt : Next
-  toldAt = At (getD at (lineOf key form1) 0)
+  toldAt = At (getD at j 0)
 
-  key-told : toldAt ≡ linePlace form1 hours (lineOf key form1) s
-  key-told = sym (p (lineOf key form1) (leb-true (lineOf key form1) (length form1) u))
+  key-told : toldAt ≡ linePlace layout hours (lineOf key layout) s
+  key-told = sym (p j u) ∙ ap (λ (k : ℕ). linePlace layout hours k s) is
 
-  pub number-told : numberFrom key s toldAt ≡ numberOn form1 hours key s
+  pub number-told : numberFrom key s toldAt ≡ numberOn layout hours key s
   unfolding numberOn
   number-told = ap (numberFrom key s) key-told
 
-  pub digits-told : digitFrom key s toldAt ≡ digitOn form1 hours key s
+  pub digits-told : digitFrom key s toldAt ≡ digitOn layout hours key s
   unfolding digitOn
   digits-told = ap (digitFrom key s) key-told
 
-  pub word-told : {r : ℕ} → r ≡ word hours (λ h. eqb (digitFrom key s toldAt h) 1) → r ≡ rowWord hours key s
+  pub word-told : {r : ℕ} → r ≡ word hours (λ h. eqb (digitFrom key s toldAt h) 1) → r ≡ rowWord layout hours key s
   unfolding rowWord
   word-told e = e ∙ ap (λ (f : ℕ → ℕ). word hours (λ h. eqb (f h) 1)) digits-told
-
--- the room for 24 hours is full with 24
-pub marks-held : (s : List ℕ) → marksHeld 24 s ≡ marksOf 24 s
-marks-held s = rw (append-nil (marksOf 24 s .cat))

@@ -7,5 +7,6 @@ pub one-read-header : OneReply read-header.Post
 one-read-header κ a r s u v p q =
     let found = one-finding (r .found) (s .found) _ (p .0) (q .0) in
     let marks = one (r .marks) (s .marks) (p .1 .0) (q .1 .0) in
-    let next = one (r .next) (s .next) (p .1 .1) (q .1 .1) in
-    λ i. record { found = found i; marks = marks i; next = next i }
+    let hours = one (r .hours) (s .hours) (p .1 .1 .0) (q .1 .1 .0) in
+    let next = one (r .next) (s .next) (p .1 .1 .1) (q .1 .1 .1) in
+    λ i. record { found = found i; marks = marks i; hours = hours i; next = next i }

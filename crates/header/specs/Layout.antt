@@ -1,11 +1,12 @@
 -- A layout is a list of lines, each as data: a number behind its key, from the least to the most that it may be; a row of digits behind its key,
--- one for each of the day's `hours`, with those that it admits; and the closing empty line. What stands here is said over any layout.
+-- one for each of the day's `hours`, with those that it admits; a run of digits behind its key, of any length and unjudged; and the closing
+-- empty line. What stands here is said over any layout.
 use mathlib.Core.Bool.{Bool, true, false}
 use mathlib.Core.List.{List, [], _∷_}
 use Prim.Native.Nat.{ℕ, zero, suc, _+_, _^_}
 use lib.Dec.{ltb, eqb}
 use lib.IntN.{ℤ, pos}
-use lib.ListN.{getD, length}
+use lib.ListN.{getD, length, drop}
 use Rattle.exact.specs.Choice.{if_then_else_}
 use Rattle.tariff.specs.Sheet.{allTo, liesIn}
 use Rattle.tariff.specs.Eligible.{marked}
@@ -13,11 +14,11 @@ use Rattle.tariff.specs.Reply.{FORM, RANGE, Verdict, unless, _then_, firstOf}
 use Rattle.text.specs.declared.Next.{Next}
 use Rattle.text.specs.declared.Next.the-variants.{At, Wrong}
 use Rattle.text.specs.Text.{keyAt}
-use Rattle.text.specs.Number.{NO-DIGIT, digitAt}
+use Rattle.text.specs.Number.{NO-DIGIT, isNumeral, digitAt}
 use Rattle.keys.specs.Keys.{keyOf}
 use Rattle.lines.specs.Line.{isAt, andThen, afterFields, valueIn, lineFeed}
 use Rattle.header.specs.declared.layout.Line.{Line}
-use Rattle.header.specs.declared.layout.Line.the-variants.{Number, Row, Close}
+use Rattle.header.specs.declared.layout.Line.the-variants.{Number, Row, Run, Close}
 
 -- the digits that a row admits, as a word: digit d by bit d
 abbrev pub admits : List ℕ → ℕ
@@ -37,10 +38,19 @@ digitsAt hours s at = if allTo (λ h. ltb (digitAt s (at + h)) NO-DIGIT) hours t
 unfoldable pub rowAt : (hours key : ℕ) → List ℕ → ℕ → Next
 rowAt hours key s at = andThen (keyAt (keyOf key) s at) (digitsAt hours s)
 
+-- a run: as many digits as there are
+unfoldable pub runOf : List ℕ → ℕ
+runOf [] = 0
+runOf (b ∷ t) = if isNumeral b then suc (runOf t) else 0
+
+abbrev pub behindRun : List ℕ → ℕ → Next
+behindRun s at = At (at + runOf (drop at s))
+
 -- the place behind what a line says
 unfoldable pub saidAt : (hours : ℕ) → Line → List ℕ → ℕ → Next
 saidAt hours (Number key least most) s at = afterFields key 1 s at
 saidAt hours (Row key admitted) s at = rowAt hours key s at
+saidAt hours (Run key) s at = andThen (keyAt (keyOf key) s at) (behindRun s)
 saidAt hours Close s at = At at
 
 -- and behind the line
@@ -69,6 +79,7 @@ digitFrom key s place h = digitIn h s (andThen place (keyAt (keyOf key) s))
 unfoldable pub lineInRange : (hours : ℕ) → Line → List ℕ → Next → Bool
 lineInRange hours (Number key least most) s place = liesIn least most (numberFrom key s place)
 lineInRange hours (Row key admitted) s place = allTo (λ h. marked admitted (digitFrom key s place h)) hours
+lineInRange hours (Run key) s place = true
 lineInRange hours Close s place = true
 
 -- ---- the two checks: the first line, from 1, that is not as printed, and the first that is out of range
@@ -87,6 +98,7 @@ layoutFault layout hours s = layoutForm layout hours s then layoutRange layout h
 abbrev pub hasKey : ℕ → Line → Bool
 hasKey k (Number key least most) = eqb key k
 hasKey k (Row key admitted) = eqb key k
+hasKey k (Run key) = eqb key k
 hasKey k Close = false
 
 -- the line that has it

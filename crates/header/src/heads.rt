@@ -1,11 +1,11 @@
-// The lines of a header: their places, their ranges and what they say.
+// The lines of a header: which layout they have, their places, their ranges and what they say.
 ghost use mathlib.Core.Path.{_≡_};
 ghost use Prim.Native.Nat.{_<_, _≤_};
-ghost use lib.IntN.{pos};
 ghost use lib.Dec.{eqb};
 ghost use mathlib.Core.Bool.{true};
 ghost use Rattle.exact.specs.Whole.{eqZ};
 ghost use Rattle.tariff.specs.Reply.{RANGE};
+ghost use Rattle.tariff.specs.Sheet.{LONGEST-DAY};
 ghost use Rattle.text.specs.Text.{keyAt};
 ghost use Rattle.text.specs.declared.Next.the-variants.{At};
 ghost use Rattle.keys.specs.Keys.{KEYS, CAT-LINE, keyOf};
@@ -13,13 +13,20 @@ ghost use Rattle.lines.specs.Line.{placeIn, filled};
 ghost use Rattle.marks.specs.Word.{word};
 ghost use Rattle.header.specs.declared.layout.Line.the-variants.{Row};
 ghost use Rattle.header.specs.Layout.{headerLine, numberFrom, digitFrom, lineInRange, layoutRange};
-ghost use Rattle.header.specs.Header.{CATEGORIES, MARKS, form1};
-ghost use Rattle.header.specs.Places.{isKeyed, Stands, Placed, refusedAt, PlacesRead, marksHeld};
+ghost use Rattle.header.specs.Header.{CATEGORIES, MARKS, layoutBy, isForm2, countOf, marksBy};
+ghost use Rattle.header.specs.Places.{isKeyed, Stands, Placed, refusedAt, PlacesRead, KindRead};
 use crate::layout;
 use crate::layout::Line;
 use crate::rows;
 use tariff::Marks;
 use text::Next;
+
+// Which lines a header has: form 2's or form 1's, their rows judged by the count or not; and how many hours its day has.
+pub struct Kind {
+    pub two: bool,
+    pub judged: bool,
+    pub hours: usize,
+}
 
 // The places of the lines and of what stands behind them, or the first line, from 1, that is not as printed.
 pub struct Places {
@@ -42,18 +49,20 @@ pub fn line_at(s: &[u8], at: usize, line: Line, hours: usize) -> Next
             s,
             rows::digits_after(s, keys::key_number(s, at, key), hours),
         ),
+        Line::Run(key) => lines::line_end(s, rows::run_after(s, keys::key_number(s, at, key))),
         Line::Close => lines::line_end(s, Next::At(at)),
     }
 }
 
-pub fn places_of(s: &[u8], hours: usize) -> Places
-    ensures { λ r. ⌜ PlacesRead hours (now (s .entry)) r ⌝ }
+pub fn places_of(s: &[u8], two: bool, judged: bool, hours: usize) -> Places
+    ensures { λ r. ⌜ PlacesRead (layoutBy two judged) hours (now (s .entry)) r ⌝ }
 {
+    let lines = layout::lines_of(two, judged);
     let mut at = [0usize; layout::PLACES];
     let mut i: usize = 0;
     let mut j: usize = 0;
-    while j < layout::LINES {
-        let Next::At(next) = line_at(s, i, layout::line_of(j), hours) else {
+    while j < lines {
+        let Next::At(next) = line_at(s, i, layout::line_of(two, judged, j), hours) else {
             return Places { broken: j + 1, at };
         };
         i = next;
@@ -91,18 +100,26 @@ pub fn in_range(s: &[u8], at: usize, line: Line, hours: usize) -> bool
     match line {
         Line::Number(key, least, most) => units::lies_in(number_of(s, at, key), least, most),
         Line::Row(key, admitted) => rows::all_admitted(s, row_start(s, at, key), hours, admitted),
+        Line::Run(_) => true,
         Line::Close => true,
     }
 }
 
 // The first line, from 1, that is out of range, or 0.
-pub fn odd_line(s: &[u8], at: [usize; layout::PLACES], hours: usize) -> usize
-    requires { ⌜ Placed form1 hours (now s) at ⌝ }
-    ensures { λ r. ⌜ refusedAt RANGE r ≡ layoutRange form1 hours (now (s .entry)) ⌝ }
+pub fn odd_line(
+    s: &[u8],
+    at: [usize; layout::PLACES],
+    two: bool,
+    judged: bool,
+    hours: usize,
+) -> usize
+    requires { ⌜ Placed (layoutBy two judged) hours (now s) at ⌝ }
+    ensures { λ r. ⌜ refusedAt RANGE r ≡ layoutRange (layoutBy two judged) hours (now (s .entry)) ⌝ }
 {
+    let lines = layout::lines_of(two, judged);
     let mut j: usize = 0;
-    while j < layout::LINES {
-        if !in_range(s, at[j], layout::line_of(j), hours) {
+    while j < lines {
+        if !in_range(s, at[j], layout::line_of(two, judged, j), hours) {
             return j + 1;
         }
         j += 1;
@@ -110,10 +127,10 @@ pub fn odd_line(s: &[u8], at: [usize; layout::PLACES], hours: usize) -> usize
     0
 }
 
-pub fn is_one(x: i64) -> bool
-    ensures { λ r. ⌜ r ≡ eqZ x (pos 1) ⌝ }
+pub fn is_number(x: i64, n: i64) -> bool
+    ensures { λ r. ⌜ r ≡ eqZ x n ⌝ }
 {
-    x == 1
+    x == n
 }
 
 // A row of marks as a word.
@@ -125,25 +142,54 @@ pub fn row_word(s: &[u8], at: usize, key: usize, hours: usize) -> u32
 }
 
 // The row of `cat`.
-pub fn row_cat(s: &[u8], at: usize, hours: usize) -> [u8; 24]
-    requires { ⌜ Stands hours (Row CAT-LINE CATEGORIES) (now s) at × (hours ≤ 24) ⌝ }
-    ensures { λ r. ⌜ r ≡ filled hours 24 (digitFrom CAT-LINE (now (s .entry)) (At at)) 0 ⌝ }
+pub fn row_cat(s: &[u8], at: usize, hours: usize) -> [u8; tariff::LONGEST_DAY]
+    requires { ⌜ Stands hours (Row CAT-LINE CATEGORIES) (now s) at × (hours ≤ LONGEST-DAY) ⌝ }
+    ensures { λ r. ⌜ r ≡ filled hours LONGEST-DAY (digitFrom CAT-LINE (now (s .entry)) (At at)) 0 ⌝ }
 {
     rows::cat_at(s, row_start(s, at, keys::CAT_LINE), hours)
 }
 
-pub fn marks_of(s: &[u8], at: [usize; layout::PLACES], hours: usize) -> Marks
-    requires { ⌜ Placed form1 hours (now s) at × (hours ≤ 24) ⌝ }
-    ensures { λ r. ⌜ r ≡ marksHeld hours (now (s .entry)) ⌝ }
+// The marks, where the rows are judged.
+pub fn marks_of(s: &[u8], at: [usize; layout::PLACES], two: bool, hours: usize) -> Marks
+    requires { ⌜ Placed (layoutBy two true) hours (now s) at × (hours ≤ LONGEST-DAY) ⌝ }
+    ensures { λ r. ⌜ r ≡ marksBy (layoutBy two true) hours (now (s .entry)) ⌝ }
 {
+    let rtc = layout::rtc_line(two);
     Marks {
-        rtc: is_one(number_of(s, at[2], keys::RTC_LINE)),
-        cat: row_cat(s, at[3], hours),
-        x1: row_word(s, at[4], keys::X1_LINE, hours),
-        x2: row_word(s, at[5], keys::X2_LINE, hours),
-        x3: row_word(s, at[6], keys::X3_LINE, hours),
-        x4: row_word(s, at[7], keys::X4_LINE, hours),
-        x5: row_word(s, at[8], keys::X5_LINE, hours),
-        x6: row_word(s, at[9], keys::X6_LINE, hours),
+        rtc: is_number(number_of(s, at[rtc], keys::RTC_LINE), 1),
+        cat: row_cat(s, at[rtc + 1], hours),
+        x1: row_word(s, at[rtc + 2], keys::X1_LINE, hours),
+        x2: row_word(s, at[rtc + 3], keys::X2_LINE, hours),
+        x3: row_word(s, at[rtc + 4], keys::X3_LINE, hours),
+        x4: row_word(s, at[rtc + 5], keys::X4_LINE, hours),
+        x5: row_word(s, at[rtc + 6], keys::X5_LINE, hours),
+        x6: row_word(s, at[rtc + 7], keys::X6_LINE, hours),
+    }
+}
+
+// The count that a header says: form 2 on its second line.
+pub fn count_of(s: &[u8], two: bool) -> i64
+    requires { ⌜ two ≡ isForm2 (now s) ⌝ }
+    ensures { λ r. ⌜ r ≡ countOf (now (s .entry)) ⌝ }
+{
+    if !two {
+        return tariff::USUAL_COUNT;
+    }
+    match line_at(s, 0, layout::line_of(true, false, 0), 0) {
+        Next::At(second) => number_of(s, second, keys::HOURS_LINE),
+        Next::Wrong => 0,
+    }
+}
+
+// The first lines decide what the others have to be.
+pub fn kind_of(s: &[u8]) -> Kind
+    ensures { λ r. ⌜ KindRead (now (s .entry)) r ⌝ }
+{
+    let two = is_number(number_of(s, 0, keys::FORM_LINE), 2);
+    let count = count_of(s, two);
+    Kind {
+        two,
+        judged: ranges::is_count(count),
+        hours: ranges::hours_by(count),
     }
 }

@@ -1,14 +1,15 @@
-// Rows of marks, over the count of a day's hours: a day on which the clocks change has another count.
+// Rows of marks, over the count of a day's hours: a day on which the clock changes has another count.
 ghost use mathlib.Core.Path.{_≡_};
 ghost use Prim.Native.Nat.{_+_, _<_, _≤_};
 ghost use lib.Dec.{eqb};
 ghost use lib.ListN.{length};
-ghost use Rattle.tariff.specs.Sheet.{allTo};
 ghost use Rattle.tariff.specs.Eligible.{marked};
 ghost use Rattle.text.specs.Number.{digitAt};
 ghost use Rattle.lines.specs.Line.{andThen, filled};
 ghost use Rattle.marks.specs.Word.{word};
-ghost use Rattle.header.specs.Layout.{digitsAt};
+ghost use Rattle.tariff.specs.Sheet.{LONGEST-DAY, allTo};
+ghost use Rattle.text.specs.declared.Next.the-variants.{At};
+ghost use Rattle.header.specs.Layout.{digitsAt, behindRun};
 use text::Next;
 
 // The place after a digit for each hour.
@@ -33,6 +34,30 @@ pub fn digits_after(s: &[u8], next: Next, hours: usize) -> Next
 {
     match next {
         Next::At(at) => digits_at(s, at, hours),
+        Next::Wrong => Next::Wrong,
+    }
+}
+
+// The place behind the digits from a place on, however many there are.
+pub fn run_at(s: &[u8], at: usize) -> usize
+    ensures { λ r. ⌜ At r ≡ behindRun (now (s .entry)) at ⌝ }
+{
+    let mut i = at;
+    while i < s.len() {
+        if text::digit_at(s, i) == 10 {
+            return i;
+        }
+        i += 1;
+    }
+    i
+}
+
+// The same behind a key, where that was found.
+pub fn run_after(s: &[u8], next: Next) -> Next
+    ensures { λ r. ⌜ r ≡ andThen next (behindRun (now (s .entry))) ⌝ }
+{
+    match next {
+        Next::At(at) => Next::At(run_at(s, at)),
         Next::Wrong => Next::Wrong,
     }
 }
@@ -69,12 +94,12 @@ pub fn word_at(s: &[u8], at: usize, hours: usize) -> u32
     row
 }
 
-// The digits themselves, in an array for 24 hours.
-pub fn cat_at(s: &[u8], at: usize, hours: usize) -> [u8; 24]
-    requires { ⌜ (hours ≤ 24) × (at + hours ≤ length (now s)) ⌝ }
-    ensures { λ r. ⌜ r ≡ filled hours 24 (λ h. digitAt (now (s .entry)) (at + h)) 0 ⌝ }
+// The digits themselves, in an array for the longest day.
+pub fn cat_at(s: &[u8], at: usize, hours: usize) -> [u8; tariff::LONGEST_DAY]
+    requires { ⌜ (hours ≤ LONGEST-DAY) × (at + hours ≤ length (now s)) ⌝ }
+    ensures { λ r. ⌜ r ≡ filled hours LONGEST-DAY (λ h. digitAt (now (s .entry)) (at + h)) 0 ⌝ }
 {
-    let mut cat = [0u8; 24];
+    let mut cat = [0u8; tariff::LONGEST_DAY];
     let mut h: usize = 0;
     while h < hours {
         cat[h] = text::digit_at(s, at + h) as u8;

@@ -74,9 +74,9 @@ read-is : (b : ImportBlock) (r : ImportRead) → r ≡ importReadOf b → (b ≡
 read-is (broken line) r e never z = absurd (never (ap broken (sym (ap (λ (x : ImportRead). x .broken) e) ∙ z)))
 read-is (read h) r e never z = ap read (sym (ap (λ (x : ImportRead). x .hour) e))
 
-module _ (s : List ℕ) (cts : ℤ) (k : ℕ) (r : ImportRead) (e : r ≡ importReadOf (importBlockAt s 0)) where
-  pub part-broken : (r .broken ≡ 0 → ⊥) → (fault FORM (r .broken), pos 0) ≡ blockWorth cts (importBlockAt s 0) k
+module _ (s : List ℕ) (cts : ℤ) (hours k : ℕ) (r : ImportRead) (e : r ≡ importReadOf (importBlockAt s 0)) where
+  pub part-broken : (r .broken ≡ 0 → ⊥) → (fault FORM (r .broken), pos 0) ≡ blockWorth cts hours (importBlockAt s 0) k
   part-broken n = rw (read-broken (importBlockAt s 0) r e n)
 
-  pub part-read : (w : Verdict × ℤ) → r .broken ≡ 0 → w ≡ blockWorth cts (read (r .hour)) k → w ≡ blockWorth cts (importBlockAt s 0) k
+  pub part-read : (w : Verdict × ℤ) → r .broken ≡ 0 → w ≡ blockWorth cts hours (read (r .hour)) k → w ≡ blockWorth cts hours (importBlockAt s 0) k
   part-read w z q = rw (read-is (importBlockAt s 0) r e (no-line-0 s 0) z) q

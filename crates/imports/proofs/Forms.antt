@@ -10,7 +10,7 @@ use lib.IntN.{ℤ, pos}
 use Rattle.exact.specs.Whole.{eqZ, sumTo}
 use Rattle.exact.proofs.Apart.{impossible}
 use Rattle.tariff.specs.declared.ImportHour.{ImportHour}
-use Rattle.tariff.specs.Sheet.{isHour, isCapacity, isPrice, isMark, isName}
+use Rattle.tariff.specs.Sheet.{isHour, isCapacity, isPrice}
 use Rattle.tariff.specs.Reply.{FORM, RANGE, ORDER, SECONDS, Verdict, clear, fault, unless, _then_, firstOf}
 use Rattle.tariff.specs.Import.{curtailedInRange, curtailed, importForm, importRange, importOrder, importSeconds, importFault}
 use Rattle.tariff.proofs.Checks.{unless-gives, Without, without-fault, without-unless, without-then, without-first}
@@ -20,7 +20,7 @@ use Rattle.keys.specs.Keys.{IMPORT-HOUR}
 use Rattle.lines.specs.Line.{isAt, andThen, valueIn}
 use Rattle.lines.specs.Series.{Series, lineCount, brokenLine}
 use Rattle.lines.proofs.Series.{series-few}
-use Rattle.imports.specs.Import.{headLine, headPlace, nameIn, ctsIn, headFault, importHourLine, curtailedLine, curtailedLines, ImportBlock, broken, read, withCurtailed, afterImportLine1, importBlockAt, blockVerdict}
+use Rattle.imports.specs.Import.{headLine, headPlace, headInRange, headFault, importHourLine, curtailedLine, curtailedLines, ImportBlock, broken, read, withCurtailed, afterImportLine1, importBlockAt, blockVerdict}
 
 never-read : {line : ℕ} {h : ImportHour} → broken line ≡ read h → ⊥
 never-read e = impossible cc
@@ -49,10 +49,10 @@ module _ (s : List ℕ) (h : ImportHour) where
 
 -- ---- no check after the first gives FORM
 
-not-range : (h : ImportHour) → Without FORM (importRange h)
+not-range : (hours : ℕ) (h : ImportHour) → Without FORM (importRange hours h)
 unfolding importRange
-not-range h =
-    let first = isHour (h .hour) && isCapacity (h .den .0) && isPrice (h .dec .0) in
+not-range hours h =
+    let first = isHour hours (h .hour) && isCapacity (h .den .0) && isPrice (h .dec .0) in
     let each : ℕ → Verdict = λ i. unless (curtailedInRange (curtailed h i)) RANGE (i + 2) in
     without-then FORM (unless first RANGE 1) (firstOf each (h .n))
     (without-unless FORM first RANGE 1 (λ e. omega arith))
@@ -66,21 +66,21 @@ not-seconds : (h : ImportHour) → Without FORM (importSeconds h)
 unfolding importSeconds
 not-seconds h = without-unless FORM (eqZ (sumTo (λ i. curtailed h i .s .0) (h .n)) (pos 3600)) SECONDS 0 (λ e. omega arith)
 
-not-form : (h : ImportHour) (k : ℕ) → importForm h ≡ clear → Without FORM (importFault h k)
-not-form h k f =
+not-form : (hours : ℕ) (h : ImportHour) (k : ℕ) → importForm h ≡ clear → Without FORM (importFault hours h k)
+not-form hours h k f =
     rw f
-    (without-then FORM (importRange h) (importOrder h k then importSeconds h) (not-range h)
+    (without-then FORM (importRange hours h) (importOrder h k then importSeconds h) (not-range hours h)
     (without-then FORM (importOrder h k) (importSeconds h) (not-order h k) (not-seconds h)))
 
 -- ---- a block
 
-module _ (s : List ℕ) (k line : ℕ) where
-  form-broken : (b : ImportBlock) → ((h : ImportHour) → b ≡ read h → importForm h ≡ clear) → blockVerdict b k ≡ fault FORM line → b ≡ broken line
+module _ (hours : ℕ) (s : List ℕ) (k line : ℕ) where
+  form-broken : (b : ImportBlock) → ((h : ImportHour) → b ≡ read h → importForm h ≡ clear) → blockVerdict hours b k ≡ fault FORM line → b ≡ broken line
   form-broken (broken l) form e = cc
-  form-broken (read h) form e = absurd (without-fault FORM (importFault h k) line (not-form h k (form h refl)) e)
+  form-broken (read h) form e = absurd (without-fault FORM (importFault hours h k) line (not-form hours h k (form h refl)) e)
 
-  pub block-form : (blockVerdict (importBlockAt s 0) k ≡ fault FORM line) ↔ (importBlockAt s 0 ≡ broken line)
-  block-form = (form-broken (importBlockAt s 0) (λ h. read-form s h), λ e. ap (λ (b : ImportBlock). blockVerdict b k) e)
+  pub block-form : (blockVerdict hours (importBlockAt s 0) k ≡ fault FORM line) ↔ (importBlockAt s 0 ≡ broken line)
+  block-form = (form-broken (importBlockAt s 0) (λ h. read-form s h), λ e. ap (λ (b : ImportBlock). blockVerdict hours b k) e)
 
 -- ---- the first two lines: their three checks
 
@@ -92,7 +92,7 @@ module _ (s : List ℕ) where
   line2 = unless (isAt (headPlace s)) FORM 2
 
   abbrev pub ranges : Verdict
-  ranges = unless (isName (nameIn s) && isMark (ctsIn s)) RANGE 1
+  ranges = unless (headInRange s) RANGE 1
 
   -- they know FORM and RANGE only
   pub head-order : (place : ℕ) → headFault s ≡ fault ORDER place → ⊥
@@ -101,7 +101,7 @@ module _ (s : List ℕ) where
       without-fault ORDER (line1 then line2 then ranges) place
       (without-then ORDER line1 (line2 then ranges) (without-unless ORDER (isAt (headLine s)) FORM 1 (λ e. omega arith))
       (without-then ORDER line2 ranges (without-unless ORDER (isAt (headPlace s)) FORM 2 (λ e. omega arith))
-      (without-unless ORDER (isName (nameIn s) && isMark (ctsIn s)) RANGE 1 (λ e. omega arith))))
+      (without-unless ORDER (headInRange s) RANGE 1 (λ e. omega arith))))
 
   -- each can give its own number and place alone
   pub from-line1 : {number place : ℕ} → line1 ≡ fault number place → (isAt (headLine s) ≡ false) × (number ≡ FORM) × (place ≡ 1)
@@ -110,9 +110,8 @@ module _ (s : List ℕ) where
   pub from-line2 : {number place : ℕ} → line2 ≡ fault number place → (isAt (headPlace s) ≡ false) × (number ≡ FORM) × (place ≡ 2)
   from-line2 = unless-gives (isAt (headPlace s)) FORM _ 2 _
 
-  pub from-ranges : {number place : ℕ} → ranges ≡ fault number place
-      → ((isName (nameIn s) && isMark (ctsIn s)) ≡ false) × (number ≡ RANGE) × (place ≡ 1)
-  from-ranges = unless-gives (isName (nameIn s) && isMark (ctsIn s)) RANGE _ 1 _
+  pub from-ranges : {number place : ℕ} → ranges ≡ fault number place → (headInRange s ≡ false) × (number ≡ RANGE) × (place ≡ 1)
+  from-ranges = unless-gives (headInRange s) RANGE _ 1 _
 
 -- an empty line behind line 1 needs that line
 pub second-first : (x : Next) (f : ℕ → Next) → isAt (andThen x f) ≡ true → isAt x ≡ true

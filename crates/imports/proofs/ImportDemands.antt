@@ -1,6 +1,6 @@
 -- The theorems of an import's text: what does not count, what refuses the day and where, what it pays, which bytes are read, and bounded memory.
-use mathlib.Core.Path.{_≡_, refl, sym, ap, _∙_}
-use mathlib.Core.Bool.{true, false, _&&_}
+use mathlib.Core.Path.{_≡_, sym, ap, _∙_}
+use mathlib.Core.Bool.{true, false}
 use mathlib.Core.List.{List, [], _∷_, _++_}
 use mathlib.Core.Logic.{_↔_, Iff·trans}
 use Prim.Native.Nat.{ℕ, suc, _<_, _≤_}
@@ -11,23 +11,23 @@ use lib.ListN.{take}
 use Rattle.exact.specs.Whole.{eqZ}
 use Rattle.exact.proofs.Sums.{sum-zeros}
 use Rattle.tariff.specs.Units.{centsOf}
-use Rattle.tariff.specs.Reply.{FORM, RANGE, ORDER, Verdict, clear, fault, _then_}
+use Rattle.tariff.specs.Reply.{FORM, RANGE, ORDER, clear, fault, _then_}
 use Rattle.tariff.specs.Import.{Spot, outside, inHour, paid, refused}
-use Rattle.tariff.specs.Sheet.{isMark, isName}
+use Rattle.tariff.specs.Sheet.{LONGEST-DAY}
 use Rattle.tariff.specs.ImportDemand.{FirstRefused}
 use Rattle.tariff.proofs.Checks.{then-first, then-second, unless-clear}
 use Rattle.tariff.proofs.Imports.{unrefused, first-refused, head-refused, surplus-refused}
 use Rattle.lines.specs.Line.{isAt, lineFeed}
-use Rattle.lines.specs.Pieces.{PIECE, restAfter, firstPiece, piece}
+use Rattle.lines.specs.Pieces.{PIECE, restAfter, firstPiece, piece, isSome}
 use Rattle.intake.specs.Intake.{keptOf, atFirst}
-use Rattle.imports.specs.Import.{headLine, headPlace, nameIn, ctsIn, headFault, importBody, importBlockAt, importReply}
+use Rattle.imports.specs.Import.{headLine, headPlace, ctsIn, hoursIn, headInRange, headFault, importBody, importBlockAt, importReply}
 use Rattle.imports.specs.Demand.{blockIn, faultIn, partIn, surplusIn, FirstBroken, Surplus, PaidBy, SameHead, ImportBlocksApart}
 use Rattle.imports.proofs.Closing.{decided, piece-decides, closed-or-ended}
 use Rattle.imports.proofs.Forms.{block-form, line1, line2, ranges, head-order, from-line1, from-line2, from-ranges, second-first}
 use Rattle.imports.proofs.Uncounted.{blocks-alike}
-use Rattle.imports.proofs.Heads.{head-refuses}
+use Rattle.imports.proofs.Heads.{hours-few}
 use Rattle.imports.proofs.Replies.{refused-by, paid-by, same-body, same-piece, replies-alike}
-use Rattle.imports.proofs.KeptImport.{got, kept-head, kept-blocks, kept-surplus}
+use Rattle.imports.proofs.KeptImport.{kept-settled, append-settled}
 use Rattle.imports.proofs.Payments.{sum-least, cents-least, block-least, block-nothing}
 
 -- ---- which intervals count
@@ -35,66 +35,67 @@ use Rattle.imports.proofs.Payments.{sum-least, cents-least, block-least
 -- An interval that does not count may say anything in its range: two texts, each block of which differs in at most one such interval, of
 -- the same length, have one reply. Their first two lines say the same, and bytes follow the last block of both or of neither.
 pub uncounted-changes-no-reply :
-    (hours : ℕ) (s t : List ℕ)
+    (s t : List ℕ)
     → SameHead s t
-    → ((k : ℕ) → k < hours → ImportBlocksApart (ctsIn s) (blockIn s k) (blockIn t k))
-    → surplusIn hours s ≡ surplusIn hours t
-    → importReply hours s ≡ importReply hours t
-uncounted-changes-no-reply hours s t o blocks e = replies-alike hours s t o each e
+    → ((k : ℕ) → k < hoursIn s → ImportBlocksApart (ctsIn s) (blockIn s k) (blockIn t k))
+    → surplusIn s ≡ surplusIn t
+    → importReply s ≡ importReply t
+uncounted-changes-no-reply s t o blocks e = replies-alike s t o each e
   where
-    each : (k : ℕ) → k < hours → (faultIn s k ≡ faultIn t k) × (partIn s k ≡ partIn t k)
-    each k u = rw (← o .cts) (blocks-alike (ctsIn s) (blockIn s k) (blockIn t k) k (blocks k u))
+    each : (k : ℕ) → k < hoursIn s → (faultIn s k ≡ faultIn t k) × (partIn s k ≡ partIn t k)
+    each k u = rw (← o .cts, ← o .hours) (blocks-alike (ctsIn s) (hoursIn s) (blockIn s k) (blockIn t k) k (blocks k u))
 
 -- ---- what refuses the day
 
 -- Where the first two lines are not refused, the first refused block refuses the day, with its hour; and only it does so with an hour.
 pub refused-by-the-first-block :
-    (hours : ℕ) (s : List ℕ) (number hour place : ℕ)
-    → (importReply hours s ≡ refused number (inHour hour place)) ↔ ((headFault s ≡ clear) × FirstRefused (faultIn s) hours hour number place)
-refused-by-the-first-block hours s number hour place =
-    Iff·trans (refused-by hours s number (inHour hour place)) (first-refused (headFault s) (faultIn s) hours (surplusIn hours s) number hour place)
+    (s : List ℕ) (number hour place : ℕ)
+    → (importReply s ≡ refused number (inHour hour place)) ↔ ((headFault s ≡ clear) × FirstRefused (faultIn s) (hoursIn s) hour number place)
+refused-by-the-first-block s number hour place =
+    Iff·trans (refused-by s number (inHour hour place)) (first-refused (headFault s) (faultIn s) (hoursIn s) (surplusIn s) number hour place)
 
--- It does so whatever follows it: a text whose first two lines have the same fault or none, and whose blocks are the same up to that one, is
--- refused alike.
+-- It does so whatever follows it: a text whose first two lines have the same fault or none and the same count, and whose blocks are the same
+-- up to that one, is refused alike.
 pub whatever-follows :
-    (hours : ℕ) (s t : List ℕ) (number hour place : ℕ)
+    (s t : List ℕ) (number hour place : ℕ)
     → headFault s ≡ headFault t
+    → hoursIn s ≡ hoursIn t
     → ((j : ℕ) → j ≤ hour → piece j (importBody s) ≡ piece j (importBody t))
-    → importReply hours s ≡ refused number (inHour hour place)
-    → importReply hours t ≡ refused number (inHour hour place)
-whatever-follows hours s t number hour place h same e =
-    let p = refused-by-the-first-block hours s number hour place .0 e in
+    → importReply s ≡ refused number (inHour hour place)
+    → importReply t ≡ refused number (inHour hour place)
+whatever-follows s t number hour place h n same e =
+    let p = refused-by-the-first-block s number hour place .0 e in
     let f = p .1 in
-    refused-by-the-first-block hours t number hour place .1 (
+    refused-by-the-first-block t number hour place .1 (
       sym h ∙ p .0,
-      record { below = f .below; before = λ j u. sym (blocks j (omega arith)) ∙ f .before j u; refuses = sym (blocks hour (omega arith)) ∙ f .refuses },
+      record { below = rw n at (f .below); before = λ j u. sym (blocks j (omega arith)) ∙ f .before j u; refuses = sym (blocks hour (omega arith)) ∙ f .refuses },
     )
   where
     blocks : (j : ℕ) → j ≤ hour → faultIn s j ≡ faultIn t j
-    blocks j u = same-piece (importBody s) (importBody t) j (same j u)
+    blocks j u = rw (← n) (same-piece (hoursIn s) (importBody s) (importBody t) j (same j u))
 
 -- FORM is given with an hour exactly when a line of its block is not as printed, at the first such line, and neither the first two lines
 -- nor a block before it is refused.
 pub form-exactly-when-broken :
-    (hours : ℕ) (s : List ℕ) (hour line : ℕ)
-    → (importReply hours s ≡ refused FORM (inHour hour line)) ↔ FirstBroken hours s hour line
-form-exactly-when-broken hours s hour line =
-    let it = refused-by-the-first-block hours s FORM hour line in
-    let form = block-form (restAfter hour (importBody s)) hour line in (
+    (s : List ℕ) (hour line : ℕ)
+    → (importReply s ≡ refused FORM (inHour hour line)) ↔ FirstBroken s hour line
+form-exactly-when-broken s hour line =
+    let it = refused-by-the-first-block s FORM hour line in
+    let form = block-form (hoursIn s) (restAfter hour (importBody s)) hour line in (
       λ e. let p = it .0 e in record { head = p .0; below = p .1 .below; before = p .1 .before; breaks = form .0 (p .1 .refuses) },
       λ b. it .1 (b .head, record { below = b .below; before = b .before; refuses = form .1 (b .breaks) }),
     )
 
 -- A refusal without an hour, unless it is ORDER, is that of the first two lines; and theirs refuses the day.
 pub refused-by-the-head :
-    (hours : ℕ) (s : List ℕ) (number place : ℕ)
+    (s : List ℕ) (number place : ℕ)
     → (number ≡ ORDER → ⊥)
-    → (importReply hours s ≡ refused number (outside place)) ↔ (headFault s ≡ fault number place)
-refused-by-the-head hours s number place never =
-    Iff·trans (refused-by hours s number (outside place)) (head-refused (headFault s) (faultIn s) hours (surplusIn hours s) number place never)
+    → (importReply s ≡ refused number (outside place)) ↔ (headFault s ≡ fault number place)
+refused-by-the-head s number place never =
+    Iff·trans (refused-by s number (outside place)) (head-refused (headFault s) (faultIn s) (hoursIn s) (surplusIn s) number place never)
 
 -- Theirs is FORM at 1 exactly when line 1 is not as printed; FORM at 2 exactly when line 1 is and no empty line stands behind it; and RANGE
--- at 1 exactly when both are as printed and `import` or `cts` is outside its range.
+-- at 1 exactly when both are as printed and `import`, `cts` or `hours` is outside its range.
 pub head-form-at-1 : (s : List ℕ) → (headFault s ≡ fault FORM 1) ↔ (isAt (headLine s) ≡ false)
 unfolding headFault
 head-form-at-1 s = (λ e. from-line1 s (then-first (line1 s) (line2 s then ranges s) FORM 1 later e) .0, λ e. rw e)
@@ -115,7 +116,7 @@ head-form-at-2 s = (
   λ p. rw (p .0, p .1),
 )
 
-pub head-range-at-1 : (s : List ℕ) → (headFault s ≡ fault RANGE 1) ↔ ((isAt (headPlace s) ≡ true) × ((isName (nameIn s) && isMark (ctsIn s)) ≡ false))
+pub head-range-at-1 : (s : List ℕ) → (headFault s ≡ fault RANGE 1) ↔ ((isAt (headPlace s) ≡ true) × (headInRange s ≡ false))
 unfolding headFault headPlace
 head-range-at-1 s = (
   λ e.
@@ -126,9 +127,9 @@ head-range-at-1 s = (
 )
 
 -- ORDER without an hour, at 0, is given exactly when neither the first two lines nor a block is refused and bytes follow the last block.
-pub surplus-exactly-when-bytes-follow : (hours : ℕ) (s : List ℕ) → (importReply hours s ≡ refused ORDER (outside 0)) ↔ Surplus hours s
-surplus-exactly-when-bytes-follow hours s =
-    let it = Iff·trans (refused-by hours s ORDER (outside 0)) (surplus-refused (headFault s) (faultIn s) hours (surplusIn hours s) (head-order s)) in (
+pub surplus-exactly-when-bytes-follow : (s : List ℕ) → (importReply s ≡ refused ORDER (outside 0)) ↔ Surplus s
+surplus-exactly-when-bytes-follow s =
+    let it = Iff·trans (refused-by s ORDER (outside 0)) (surplus-refused (headFault s) (faultIn s) (hoursIn s) (surplusIn s) (head-order s)) in (
       λ e. let p = it .0 e in record { head = p .0; blocks = p .1; follow = p .2 },
       λ o. it .1 (o .head, o .blocks, o .follow),
     )
@@ -136,10 +137,10 @@ surplus-exactly-when-bytes-follow hours s =
 -- ---- what the day pays
 
 -- It is paid exactly when nothing refuses it: to the import that line 1 names, the sum of its blocks' parts, which becomes cents once.
-pub paid-exactly-when-unrefused : (hours : ℕ) (s : List ℕ) (name g c : ℤ) → (importReply hours s ≡ paid name g c) ↔ PaidBy hours s name g c
-paid-exactly-when-unrefused hours s name g c =
-    let it = paid-by hours s name g c in
-    let day = unrefused (headFault s) (faultIn s) hours (surplusIn hours s) in (
+pub paid-exactly-when-unrefused : (s : List ℕ) (name g c : ℤ) → (importReply s ≡ paid name g c) ↔ PaidBy s name g c
+paid-exactly-when-unrefused s name g c =
+    let it = paid-by s name g c in
+    let day = unrefused (headFault s) (faultIn s) (hoursIn s) (surplusIn s) in (
       λ e.
           let p = it .0 e in
           let d = day .0 (p .0) in
@@ -148,35 +149,36 @@ paid-exactly-when-unrefused hours s name g c =
     )
 
 -- Neither its sum nor its payment is negative.
-pub never-negative : (hours : ℕ) (s : List ℕ) (name g c : ℤ) → importReply hours s ≡ paid name g c → (pos 0 ≤ℤ g) × (pos 0 ≤ℤ c)
-never-negative hours s name g c e =
-    let o = paid-exactly-when-unrefused hours s name g c .0 e in
-    (rw (o .grains) (sum-least (partIn s) hours (λ k u. block-least (ctsIn s) (blockIn s k))), rw (o .cents) (cents-least g))
+pub never-negative : (s : List ℕ) (name g c : ℤ) → importReply s ≡ paid name g c → (pos 0 ≤ℤ g) × (pos 0 ≤ℤ c)
+never-negative s name g c e =
+    let o = paid-exactly-when-unrefused s name g c .0 e in
+    (rw (o .grains) (sum-least (partIn s) (hoursIn s) (λ k u. block-least (ctsIn s) (blockIn s k))), rw (o .cents) (cents-least g))
 
 -- A CTS import that is not refused is paid 0.
 pub cts-pays-nothing :
-    (hours : ℕ) (s : List ℕ) (name g c : ℤ)
+    (s : List ℕ) (name g c : ℤ)
     → eqZ (ctsIn s) (pos 0) ≡ false
-    → importReply hours s ≡ paid name g c
+    → importReply s ≡ paid name g c
     → (g ≡ pos 0) × (c ≡ pos 0)
 unfolding centsOf
-cts-pays-nothing hours s name g c n e =
-    let o = paid-exactly-when-unrefused hours s name g c .0 e in
-    let none : g ≡ pos 0 = o .grains ∙ sum-zeros (partIn s) hours (λ k u. block-nothing (ctsIn s) (blockIn s k) n) in
+cts-pays-nothing s name g c n e =
+    let o = paid-exactly-when-unrefused s name g c .0 e in
+    let none : g ≡ pos 0 = o .grains ∙ sum-zeros (partIn s) (hoursIn s) (λ k u. block-nothing (ctsIn s) (blockIn s k) n) in
     (none, o .cents ∙ ap centsOf none)
 
--- And it goes through every check: of two texts that differ in their first two lines only, and are not refused for these, one is refused as
--- the other is.
+-- And it goes through every check: of two texts that differ in their first two lines only, and are neither refused for these nor of days of
+-- different length, one is refused as the other is.
 pub cts-asks-every-check :
-    (hours : ℕ) (s t : List ℕ)
+    (s t : List ℕ)
     → headFault s ≡ clear
     → headFault t ≡ clear
+    → hoursIn s ≡ hoursIn t
     → importBody s ≡ importBody t
     → (number : ℕ) (spot : Spot)
-    → importReply hours s ≡ refused number spot
-    → importReply hours t ≡ refused number spot
-cts-asks-every-check hours s t hs ht body number spot e =
-    refused-by hours t number spot .1 (sym (same-body hours s t (hs ∙ sym ht) body) ∙ refused-by hours s number spot .0 e)
+    → importReply s ≡ refused number spot
+    → importReply t ≡ refused number spot
+cts-asks-every-check s t hs ht hours body number spot e =
+    refused-by t number spot .1 (sym (same-body s t (hs ∙ sym ht) hours body) ∙ refused-by s number spot .0 e)
 
 -- ---- which bytes are read
 
@@ -195,11 +197,14 @@ first-bytes-decide = decided
 -- ---- bounded memory
 
 -- An import is settled alike from what is kept of its text, of any length: the first two lines and each block up to its first 10,640 bytes
--- and its empty line, and a byte of what follows.
-pub a-kept-import-is-settled-alike : (hours : ℕ) (s : List ℕ) → importReply hours (keptOf (atFirst (suc hours)) s) ≡ importReply hours s
-a-kept-import-is-settled-alike hours s = go (headFault s) refl
-  where
-    go : (v : Verdict) → headFault s ≡ v → importReply hours (got hours s) ≡ importReply hours s
-    go clear e = replies-alike hours (got hours s) s (kept-head hours s) (kept-blocks hours s e) (kept-surplus hours s e)
-    go (fault number place) e =
-        sym (head-refuses hours (got hours s) number place (kept-head hours s .fault ∙ e)) ∙ head-refuses hours s number place e
+-- and its empty line, and at least a byte of what follows, however many pieces more are kept.
+pub a-kept-import-is-settled-alike : (pieces : ℕ) (s : List ℕ) → hoursIn s < pieces → importReply (keptOf (atFirst pieces) s) ≡ importReply s
+a-kept-import-is-settled-alike = kept-settled
+
+-- So a piece more than the longest day has hours is enough for every text: no day has more.
+pub no-day-is-longer : (s : List ℕ) → hoursIn s ≤ LONGEST-DAY
+no-day-is-longer = hours-few
+
+-- Where a byte stands behind the last block, those that follow it settle nothing: a program may stop reading there.
+pub behind-a-surplus-byte-nothing-settles : (s t : List ℕ) → isSome (restAfter (suc (hoursIn s)) s) ≡ true → importReply (s ++ t) ≡ importReply s
+behind-a-surplus-byte-nothing-settles = append-settled

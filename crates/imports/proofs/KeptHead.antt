@@ -1,55 +1,84 @@
 -- The first two lines of an import are decided by their first piece, and by their first 10,640 bytes, whether they are refused or not.
 use mathlib.Core.Path.{_≡_, refl, sym, _∙_, ap}
-use mathlib.Core.Bool.{true, false≢true, _&&_}
+use mathlib.Core.Bool.{true, false≢true}
 use mathlib.Core.List.{List}
 use Prim.Native.Nat.{ℕ, _<_, _≤_}
 use native.Mathlib.Omega.{arith}
 use lib.ListN.{take, drop}
 use lib.Seq.{getD-take}
+use Rattle.exact.specs.Choice.{if_then_else_}
+use Rattle.exact.proofs.Parts.{by-test}
 use Rattle.tariff.specs.Reply.{FORM, RANGE, Verdict, clear, unless, _then_}
-use Rattle.tariff.specs.Sheet.{isMark, isName}
 use Rattle.tariff.proofs.Checks.{then-clear, unless-clear}
 use Rattle.text.specs.Text.{byteAt, keyAt}
 use Rattle.text.specs.declared.Next.{Next}
 use Rattle.text.specs.declared.Next.the-variants.{At, Wrong}
 use Rattle.keys.specs.Keys.{IMPORT}
-use Rattle.lines.specs.Line.{isAt, placeIn, andThen, lineFeed}
+use Rattle.lines.specs.Line.{isAt, placeIn, andThen, valueIn, lineFeed, lineAt}
 use Rattle.lines.specs.Cut.{emptyIn, behind}
 use Rattle.lines.specs.Pieces.{PIECE, upToPlace, firstPiece}
 use Rattle.lines.proofs.Along.{closing, went, unmoved, Stretch, values-placed, line-placed, Along, stretch}
 use Rattle.lines.proofs.Cut.{behind-at, behind-range}
 use Rattle.lines.proofs.Passed.{feed-empty, line-passed}
 use Rattle.lines.proofs.Pieces.{Shares, whole, empty, lines, piece-shares}
-use Rattle.lines.proofs.Agree.{goes-on, same-place, first-bytes, line, feed}
+use Rattle.lines.proofs.Agree.{SamePlace, goes-on, same-place, first-bytes, line, feed}
 use Rattle.intake.proofs.Kept.{FirstKept, short, long}
-use Rattle.imports.specs.Import.{headLine, headPlace, nameIn, ctsIn, headFault, importBody}
+use Rattle.imports.specs.Import.{saysHours, pairsIn, headLine, headPlace, nameIn, ctsIn, countIn, hoursIn, headInRange, headFault, importBody}
 use Rattle.imports.specs.Demand.{SameHead}
 
--- line 1 of two texts: the place behind it, and its two values
+-- ---- line 1 has two pairs or three
+module _ (s : List ℕ) where
+  pairs-few : pairsIn s ≤ 3
+  pairs-few = by-test (saysHours s) (λ t. (if t then 3 else 2) ≤ 3) (λ e. omega arith) (λ e. omega arith)
+
+  -- and holds no empty line
+  head-passed : (j : ℕ) → headLine s ≡ At j → emptyIn true s 0 ≡ emptyIn true (drop j s) j
+  head-passed j =
+      by-test (saysHours s) (λ t. lineAt IMPORT (if t then 3 else 2) s 0 ≡ At j → emptyIn true s 0 ≡ emptyIn true (drop j s) j)
+      (λ e. line-passed s IMPORT 2 refl j)
+      (λ e. line-passed s IMPORT 1 refl j)
+
+-- line 1 of two texts: the place behind it, its name and its mark, and the count that it says or leaves out
 record SameLine (s t : List ℕ) : Type 0 where
   place : headLine s ≡ headLine t
   name : nameIn s ≡ nameIn t
   cts : ctsIn s ≡ ctsIn t
+  count : countIn s ≡ countIn t
 
 same-head : {s t : List ℕ} → SameLine s t → headPlace s ≡ headPlace t → SameHead s t
-unfolding headFault
-same-head o e = record { fault = rw (o .place, o .name, o .cts, e); name = o .name; cts = o .cts }
+unfolding headFault hoursIn
+same-head o e = record { fault = rw (o .place, o .name, o .cts, o .count, e); name = o .name; cts = o .cts; hours = rw (o .count) }
 
--- line 1 has 2 fields and at most 33 bytes, from which a stretch that both texts have begins
-module _ {s t : List ℕ} {f : ℕ → ℕ} {In : ℕ → ℕ → Type 0} (o : Stretch s t f f In) (start : f 0 ≡ 0) (enough : In 33 0) where
+-- it has at most 49 bytes, from which a stretch that both texts have begins
+module _ {s t : List ℕ} {f : ℕ → ℕ} {In : ℕ → ℕ → Type 0} (o : Stretch s t f f In) (start : f 0 ≡ 0) (enough : In 49 0) where
+  pairs-same : (n : ℕ) → n ≤ 3 → lineAt IMPORT n s 0 ≡ lineAt IMPORT n t 0
+  pairs-same n u = rw start at (unmoved (line-placed o {Q = λ j. Unit {0}} IMPORT n 0 49 0 (omega arith) enough (λ j l e. tt)))
+
+  value-same : (n : ℕ) → n < 3 → valueIn IMPORT s 0 n ≡ valueIn IMPORT t 0 n
+  value-same n u = rw start at (values-placed o IMPORT n 49 0 (omega arith) enough)
+
   same-line : SameLine s t
-  same-line = record {
-    place = rw start at (unmoved (line-placed o {Q = λ j. Unit {0}} IMPORT 2 0 33 0 (omega arith) enough (λ j l e. tt)));
-    name = rw start at (values-placed o IMPORT 0 33 0 (omega arith) enough);
-    cts = rw start at (values-placed o IMPORT 1 33 0 (omega arith) enough);
-  }
+  unfolding countIn
+  same-line =
+      let third = pairs-same 3 (omega arith) in
+      record {
+        place = rw third (pairs-same (pairsIn t) (pairs-few t));
+        name = value-same 0 (omega arith);
+        cts = value-same 1 (omega arith);
+        count = rw (third, value-same 2 (omega arith));
+      }
 
 -- ---- by the first bytes
-module _ (s t : List ℕ) (N : ℕ) (agree : (i : ℕ) → i < N → byteAt s i ≡ byteAt t i) (enough : 34 ≤ N) where
+module _ (s t : List ℕ) (N : ℕ) (agree : (i : ℕ) → i < N → byteAt s i ≡ byteAt t i) (enough : 50 ≤ N) where
+  agreed-pairs : (n : ℕ) → n ≤ 3 → SamePlace 49 (lineAt IMPORT n s 0) (lineAt IMPORT n t 0)
+  agreed-pairs n u = line s t N agree IMPORT n 0 49 (omega arith) (omega arith)
+
+  agreed-line : SamePlace 49 (headLine s) (headLine t)
+  agreed-line = rw (same-place (agreed-pairs 3 (omega arith))) (agreed-pairs (pairsIn t) (pairs-few t))
+
   agreed-place : headPlace s ≡ headPlace t
   unfolding headPlace
-  agreed-place =
-      same-place (goes-on _ _ (line s t N agree IMPORT 2 0 33 (omega arith) (omega arith)) (λ i l. feed s t N agree i N (omega arith) (omega arith)))
+  agreed-place = same-place (goes-on _ _ agreed-line (λ i l. feed s t N agree i N (omega arith) (omega arith)))
 
   agreed-head : SameHead s t
   agreed-head = same-head (same-line (first-bytes s t N agree N (omega arith)) refl (omega arith)) agreed-place
@@ -67,6 +96,7 @@ module _ {s t : List ℕ} where
     place = ap (λ (l : List ℕ). headLine l) e;
     name = ap (λ (l : List ℕ). nameIn l) e;
     cts = ap (λ (l : List ℕ). ctsIn l) e;
+    count = ap countIn e;
   }
   shared-line (empty f g) = along-line 0 (record { same = λ i l. let z : i ≡ 0 = omega arith in rw z (f ∙ sym g); stop = ap closing f })
   shared-line (lines m line next) = along-line m line
@@ -82,7 +112,7 @@ module _ (s : List ℕ) where
     where
       go : (x : Next) → headLine s ≡ x → andThen (headLine s) (lineFeed s) ≡ andThen (headLine (take i s)) (lineFeed (take i s))
       go (At j) q =
-          let inside = behind-range s j i true (sym (line-passed s IMPORT 1 refl j q) ∙ e) .0 in
+          let inside = behind-range s j i true (sym (head-passed s j q) ∙ e) .0 in
           rw (← same, q, getD-take i s j 256 inside)
       go Wrong q = rw (← same, q)
 
@@ -99,7 +129,7 @@ module _ (s : List ℕ) where
 
 -- ---- so what is kept of them is enough
 turned : {s t : List ℕ} → SameHead s t → SameHead t s
-turned o = record { fault = sym (o .fault); name = sym (o .name); cts = sym (o .cts) }
+turned o = record { fault = sym (o .fault); name = sym (o .name); cts = sym (o .cts); hours = sym (o .hours) }
 
 -- each says what a part of it says, and that is the same part
 via : {s t p q : List ℕ} → SameHead s p → SameHead t q → p ≡ q → SameHead s t
@@ -107,6 +137,7 @@ via a b e = record {
   fault = a .fault ∙ ap headFault e ∙ sym (b .fault);
   name = a .name ∙ ap (λ (l : List ℕ). nameIn l) e ∙ sym (b .name);
   cts = a .cts ∙ ap (λ (l : List ℕ). ctsIn l) e ∙ sym (b .cts);
+  hours = a .hours ∙ ap hoursIn e ∙ sym (b .hours);
 }
 
 pub head-kept : {got text : List ℕ} → FirstKept got text → SameHead got text
@@ -121,13 +152,13 @@ module _ (s : List ℕ) where
       let front = went (headLine s) (lineFeed s) k e in
       let j = front .0 in
       let next = ap (λ (y : Next). andThen y (lineFeed s)) (sym (front .1)) ∙ e in
-      behind-at s 0 k (line-passed s IMPORT 1 refl j (front .1) ∙ feed-empty s j k next)
+      behind-at s 0 k (head-passed s j (front .1) ∙ feed-empty s j k next)
   place-behind Wrong e u = absurd (false≢true u)
 
   pub clear-behind : headFault s ≡ clear → importBody s ≡ behind s
   unfolding headFault
   clear-behind e =
-      let ranges : Verdict = unless (isName (nameIn s) && isMark (ctsIn s)) RANGE 1 in
+      let ranges : Verdict = unless (headInRange s) RANGE 1 in
       let second : Verdict = unless (isAt (headPlace s)) FORM 2 in
       let rest = then-clear (unless (isAt (headLine s)) FORM 1) (second then ranges) e .1 in
       place-behind (headPlace s) refl (unless-clear (isAt (headPlace s)) FORM 2 (then-clear second ranges rest .0))

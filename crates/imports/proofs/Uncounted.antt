@@ -28,9 +28,9 @@ module _ (cts : ℤ) (h g : ImportHour) (o : UncountedApart cts h g) where
   unfolding importForm
   form-same = rw (o .n)
 
-  range-same : importRange h ≡ importRange g
+  range-same : (hours : ℕ) → importRange hours h ≡ importRange hours g
   unfolding importRange
-  range-same =
+  range-same hours =
       let each = first-same (λ i. unless (curtailedInRange (curtailed h i)) RANGE (i + 2)) (λ i. unless (curtailedInRange (curtailed g i)) RANGE (i + 2)) (h .n)
       (λ i u. ap (λ (b : Bool). unless b RANGE (i + 2)) (range-at i (ℕ-discrete i (o .at)))) in
       rw (o .hour, o .den, o .dec, each, o .n)
@@ -45,8 +45,8 @@ module _ (cts : ℤ) (h g : ImportHour) (o : UncountedApart cts h g) where
       let sums = sum-same (λ i. curtailed h i .s .0) (λ i. curtailed g i .s .0) (h .n) (λ i u. seconds-at i (ℕ-discrete i (o .at))) in
       rw (sums, o .n)
 
-  fault-same : (k : ℕ) → importFault h k ≡ importFault g k
-  fault-same k = rw (form-same, range-same, order-same k, seconds-same)
+  fault-same : (hours k : ℕ) → importFault hours h k ≡ importFault hours g k
+  fault-same hours k = rw (form-same, range-same hours, order-same k, seconds-same)
 
   part-same : importPart cts h ≡ importPart cts g
   unfolding importPart
@@ -54,6 +54,7 @@ module _ (cts : ℤ) (h g : ImportHour) (o : UncountedApart cts h g) where
 
 -- ---- blocks
 
-pub blocks-alike : (cts : ℤ) (b c : ImportBlock) (k : ℕ) → ImportBlocksApart cts b c → (blockVerdict b k ≡ blockVerdict c k) × (blockPart cts b ≡ blockPart cts c)
-blocks-alike cts b c k (same e) = (rw e, rw e)
-blocks-alike cts b c k (apart h g p q o) = (rw (p, q) (fault-same cts h g o k), rw (p, q) (part-same cts h g o))
+pub blocks-alike : (cts : ℤ) (hours : ℕ) (b c : ImportBlock) (k : ℕ) → ImportBlocksApart cts b c
+    → (blockVerdict hours b k ≡ blockVerdict hours c k) × (blockPart cts b ≡ blockPart cts c)
+blocks-alike cts hours b c k (same e) = (rw e, rw e)
+blocks-alike cts hours b c k (apart h g p q o) = (rw (p, q) (fault-same cts h g o hours k), rw (p, q) (part-same cts h g o))

@@ -11,45 +11,45 @@ use Rattle.tariff.specs.Units.{centsOf}
 use Rattle.tariff.specs.Reply.{Verdict, clear}
 use Rattle.tariff.specs.Import.{curtailed, curtailedInRange, counts}
 use Rattle.lines.specs.Pieces.{restAfter, isSome}
-use Rattle.imports.specs.Import.{nameIn, ctsIn, headFault, importBody, ImportBlock, broken, read, importBlockAt, blockVerdict, blockPart}
+use Rattle.imports.specs.Import.{nameIn, ctsIn, hoursIn, headFault, importBody, ImportBlock, broken, read, importBlockAt, blockVerdict, blockPart}
 
 -- block k of a text, the verdict on it, and its part of the day
 abbrev pub blockIn : List ℕ → ℕ → ImportBlock
 blockIn s k = importBlockAt (restAfter k (importBody s)) 0
 
 abbrev pub faultIn : List ℕ → ℕ → Verdict
-faultIn s k = blockVerdict (blockIn s k) k
+faultIn s k = blockVerdict (hoursIn s) (blockIn s k) k
 
 abbrev pub partIn : List ℕ → ℕ → ℤ
 partIn s k = blockPart (ctsIn s) (blockIn s k)
 
 -- whether bytes follow the last of the blocks
-abbrev pub surplusIn : (hours : ℕ) → List ℕ → Bool
-surplusIn hours s = isSome (restAfter hours (importBody s))
+abbrev pub surplusIn : List ℕ → Bool
+surplusIn s = isSome (restAfter (hoursIn s) (importBody s))
 
--- ---- when an import of a day of `hours` hours is refused or paid
+-- ---- when an import is refused or paid
 
 -- neither the first two lines nor a block before block `hour` is refused, and `line` is that block's first line that is not as printed
-pub record FirstBroken (hours : ℕ) (s : List ℕ) (hour line : ℕ) : Type 0 where
+pub record FirstBroken (s : List ℕ) (hour line : ℕ) : Type 0 where
   pub head : headFault s ≡ clear
-  pub below : hour < hours
+  pub below : hour < hoursIn s
   pub before : (j : ℕ) → j < hour → faultIn s j ≡ clear
   pub breaks : blockIn s hour ≡ broken line
 
 -- neither the first two lines nor a block is refused, and bytes follow the last block
-pub record Surplus (hours : ℕ) (s : List ℕ) : Type 0 where
+pub record Surplus (s : List ℕ) : Type 0 where
   pub head : headFault s ≡ clear
-  pub blocks : (k : ℕ) → k < hours → faultIn s k ≡ clear
-  pub follow : surplusIn hours s ≡ true
+  pub blocks : (k : ℕ) → k < hoursIn s → faultIn s k ≡ clear
+  pub follow : surplusIn s ≡ true
 
 -- neither the first two lines nor a block is refused, and no bytes follow the last; the import that line 1 names is paid the sum g of
 -- all parts, and its cents c, to which g is rounded down once
-pub record PaidBy (hours : ℕ) (s : List ℕ) (who g c : ℤ) : Type 0 where
+pub record PaidBy (s : List ℕ) (who g c : ℤ) : Type 0 where
   pub head : headFault s ≡ clear
-  pub blocks : (k : ℕ) → k < hours → faultIn s k ≡ clear
-  pub ends : surplusIn hours s ≡ false
+  pub blocks : (k : ℕ) → k < hoursIn s → faultIn s k ≡ clear
+  pub ends : surplusIn s ≡ false
   pub name : who ≡ nameIn s
-  pub grains : g ≡ sumTo (partIn s) hours
+  pub grains : g ≡ sumTo (partIn s) (hoursIn s)
   pub cents : c ≡ centsOf g
 
 -- ---- two texts
@@ -59,6 +59,7 @@ pub record SameHead (s t : List ℕ) : Type 0 where
   pub fault : headFault s ≡ headFault t
   pub name : nameIn s ≡ nameIn t
   pub cts : ctsIn s ≡ ctsIn t
+  pub hours : hoursIn s ≡ hoursIn t
 
 -- two hours that differ in one interval, which counts in neither, is as long in both, and in its range in both or in neither
 pub record UncountedApart (cts : ℤ) (h g : ImportHour) : Type 0 where

@@ -7,7 +7,7 @@ use lib.IntN.{pos, negsuc}
 use Rattle.exact.specs.Whole.{maxℤ, upTo, sumTo}
 use Rattle.tariff.specs.declared.ImportHour.{ImportHour}
 use Rattle.tariff.specs.Units.{kw, price, seconds, centsOf}
-use Rattle.tariff.specs.Reply.{FORM, RANGE, ORDER, SECONDS, clear, fault, firstOf}
+use Rattle.tariff.specs.Reply.{FORM, RANGE, ORDER, SECONDS, Verdict, clear, fault, firstOf}
 use Rattle.tariff.specs.Import.{blankCurtailed, curtailedInRange, importForm, importRange, importOrder, importSeconds, counts, importGrains, importSum, importPart, outside, inHour, importDayFault, ImportReply, paid, refused, importReplyBy}
 use Rattle.text.specs.Text.{bytes, keyAt}
 use Rattle.text.specs.Number.{digitAt, moreDigits, naturalAt, numberAt}
@@ -15,11 +15,11 @@ use Rattle.lines.specs.Line.{valueAt, fieldAt, afterFields, valueIn, lineAt, cl
 use Rattle.lines.specs.Series.{seriesPlace, seriesIn, lineCount, brokenLine, seriesAt}
 use Rattle.lines.specs.Cut.{emptyIn, behind}
 use Rattle.lines.specs.Pieces.{restAfter}
-use Rattle.imports.specs.Import.{headPlace, nameIn, ctsIn, headFault, importBody, curtailedLine, ImportBlock, broken, read, importBlockAt, replyUnder, importReply}
+use Rattle.imports.specs.Import.{headPlace, nameIn, ctsIn, countIn, hoursIn, headFault, importBody, curtailedLine, ImportBlock, broken, read, importBlockAt, blockVerdict, replyUnder, importReply}
 
 -- what a proof by computation opens
 reading : List ℕ → ImportBlock
-unfolding importBlockAt headFault headPlace seriesAt seriesIn seriesPlace closes lineAt valueIn afterFields fieldAt valueAt keyAt numberAt naturalAt moreDigits digitAt upTo
+unfolding importBlockAt headFault headPlace countIn hoursIn seriesAt seriesIn seriesPlace closes lineAt valueIn afterFields fieldAt valueAt keyAt numberAt naturalAt moreDigits digitAt upTo
 reading s = importBlockAt s 0
 
 -- ---- the first two lines
@@ -71,6 +71,58 @@ odd-mark = refl
 below-mark : headFault (bytes "import=77 cts=-1\n\n") ≡ fault RANGE 1
 unfolding reading
 below-mark = refl
+
+-- ---- the count of the day's hours: line 1 says it at its end, or the day has 24
+
+usual : hoursIn head ≡ 24
+unfolding reading
+usual = refl
+
+short-day : (headFault (bytes "import=77 cts=0 hours=23\n\n") ≡ clear) × (hoursIn (bytes "import=77 cts=0 hours=23\n\n") ≡ 23)
+unfolding reading
+short-day = (refl, refl)
+
+usual-day : (headFault (bytes "import=77 cts=0 hours=24\n\n") ≡ clear) × (hoursIn (bytes "import=77 cts=0 hours=24\n\n") ≡ 24)
+unfolding reading
+usual-day = (refl, refl)
+
+long-day : (headFault (bytes "import=77 cts=0 hours=25\n\n") ≡ clear) × (hoursIn (bytes "import=77 cts=0 hours=25\n\n") ≡ 25)
+unfolding reading
+long-day = (refl, refl)
+
+body-behind-hours : importBody (bytes "import=77 cts=0 hours=25\n\nhour=0") ≡ bytes "hour=0"
+unfolding reading
+body-behind-hours = refl
+
+too-few : headFault (bytes "import=77 cts=0 hours=22\n\n") ≡ fault RANGE 1
+unfolding reading
+too-few = refl
+
+too-many : headFault (bytes "import=77 cts=0 hours=26\n\n") ≡ fault RANGE 1
+unfolding reading
+too-many = refl
+
+-- FORM comes before RANGE here too
+form-before-count : headFault (bytes "import=77 cts=0 hours=22\n") ≡ fault FORM 2
+unfolding reading
+form-before-count = refl
+
+-- elsewhere, twice, without a number, or not as a number is printed, it is FORM
+hours-first : headFault (bytes "import=77 hours=24 cts=0\n\n") ≡ fault FORM 1
+unfolding reading
+hours-first = refl
+
+hours-twice : headFault (bytes "import=77 cts=0 hours=24 hours=24\n\n") ≡ fault FORM 1
+unfolding reading
+hours-twice = refl
+
+hours-alone : headFault (bytes "import=77 cts=0 hours=\n\n") ≡ fault FORM 1
+unfolding reading
+hours-alone = refl
+
+leading-zero : headFault (bytes "import=77 cts=0 hours=024\n\n") ≡ fault FORM 1
+unfolding reading
+leading-zero = refl
 
 -- ---- a block
 
@@ -127,44 +179,76 @@ line-too-many : seriesAt curtailedLine 2 1 (interval ++ bytes "?") 0 29 ≡ brok
 unfolding reading
 line-too-many = refl
 
--- ---- the reply to a day of one hour or of two: four quarters of 40,000 kW at 5,000 cents per MWh are 720,000,000,000 grains
-
-replying : List ℕ → ImportReply
-unfolding reading importReply replyUnder restAfter behind emptyIn importReplyBy importDayFault importPart importForm importRange importOrder importSeconds curtailedInRange firstOf importSum importGrains counts maxℤ sumTo centsOf
-replying s = importReply 1 s
+-- ---- the verdict on a block
 
 abbrev block : List ℕ
 block = line1 ++ interval ++ interval ++ interval ++ interval
 
-pays : importReply 1 (head ++ block) ≡ paid (pos 77) (pos 720000000000) (pos 200000)
+judging : (hours : ℕ) → List ℕ → ℕ → Verdict
+unfolding reading importForm importRange importOrder importSeconds curtailedInRange firstOf sumTo
+judging hours s k = blockVerdict hours (importBlockAt s 0) k
+
+abbrev hour24 : List ℕ
+hour24 = bytes "hour=24 den=100000 dec=-200\n" ++ interval ++ interval ++ interval ++ interval
+
+-- a day of 25 hours has an hour 24: it is the last, and elsewhere out of order
+last-of-25 : judging 25 hour24 24 ≡ clear
+unfolding judging
+last-of-25 = refl
+
+not-the-first : judging 25 hour24 0 ≡ fault ORDER 1
+unfolding judging
+not-the-first = refl
+
+none-of-24 : judging 24 hour24 0 ≡ fault RANGE 1
+unfolding judging
+none-of-24 = refl
+
+-- hour 23 is in range on a day of 23 hours too, and there always out of order
+none-of-23 : judging 23 (bytes "hour=23 den=100000 dec=-200\n" ++ interval) 22 ≡ fault ORDER 1
+unfolding judging
+none-of-23 = refl
+
+-- ---- the reply, shown on days of one hour or two: four quarters of 40,000 kW at 5,000 cents per MWh are 720,000,000,000 grains
+
+replying : (hours : ℕ) → List ℕ → ImportReply
+unfolding judging replyUnder restAfter behind emptyIn importReplyBy importDayFault importPart importSum importGrains counts maxℤ centsOf
+replying hours s = replyUnder (headFault s) (nameIn s) (ctsIn s) hours (importBody s)
+
+-- that of a text is by its own count
+by-its-count : (s : List ℕ) → importReply s ≡ replying (hoursIn s) s
+unfolding replying importReply
+by-its-count s = refl
+
+pays : replying 1 (head ++ block) ≡ paid (pos 77) (pos 720000000000) (pos 200000)
 unfolding replying
 pays = refl
 
 -- a line feed behind the empty line of the last block is a surplus, the empty line itself is none
-empty-line-closes : importReply 1 (head ++ block ++ bytes "\n") ≡ paid (pos 77) (pos 720000000000) (pos 200000)
+empty-line-closes : replying 1 (head ++ block ++ bytes "\n") ≡ paid (pos 77) (pos 720000000000) (pos 200000)
 unfolding replying
 empty-line-closes = refl
 
-surplus : importReply 1 (head ++ block ++ bytes "\n\n") ≡ refused ORDER (outside 0)
+surplus : replying 1 (head ++ block ++ bytes "\n\n") ≡ refused ORDER (outside 0)
 unfolding replying
 surplus = refl
 
 -- an absent block is an empty block
-absent : importReply 2 (head ++ block) ≡ refused FORM (inHour 1 1)
+absent : replying 2 (head ++ block) ≡ refused FORM (inHour 1 1)
 unfolding replying
 absent = refl
 
 -- ORDER: block 1 says hour 0
-twice : importReply 2 (head ++ block ++ bytes "\n" ++ block) ≡ refused ORDER (inHour 1 1)
+twice : replying 2 (head ++ block ++ bytes "\n" ++ block) ≡ refused ORDER (inHour 1 1)
 unfolding replying
 twice = refl
 
 -- SECONDS in block 0 comes before FORM in block 1
-first-block-first : importReply 2 (head ++ line1 ++ interval ++ bytes "\n?") ≡ refused SECONDS (inHour 0 0)
+first-block-first : replying 2 (head ++ line1 ++ interval ++ bytes "\n?") ≡ refused SECONDS (inHour 0 0)
 unfolding replying
 first-block-first = refl
 
 -- `cts=1` goes through all checks and pays 0
-cts-pays-nothing : importReply 1 (bytes "import=77 cts=1\n\n" ++ block) ≡ paid (pos 77) (pos 0) (pos 0)
+cts-pays-nothing : replying 1 (bytes "import=77 cts=1\n\n" ++ block) ≡ paid (pos 77) (pos 0) (pos 0)
 unfolding replying
 cts-pays-nothing = refl

@@ -14,8 +14,17 @@ use Rattle.lines.specs.Line.{placeIn}
 use Rattle.lines.specs.Told.{SeriesFound}
 use Rattle.imports.specs.declared.block.SeriesRead.{SeriesRead}
 use Rattle.imports.specs.declared.block.ImportRead.{ImportRead}
+use Rattle.imports.specs.declared.head.FirstLine.{FirstLine}
 use Rattle.imports.specs.declared.head.Head.{Head}
-use Rattle.imports.specs.Import.{headPlace, nameIn, ctsIn, headFault, curtailedLine, curtailedSaid, ImportBlock, broken, read, blockVerdict, blockPart}
+use Rattle.imports.specs.Import.{headLine, headPlace, nameIn, ctsIn, countIn, hoursIn, headFault, curtailedLine, curtailedSaid, ImportBlock, broken, read, blockVerdict, blockPart}
+
+-- ---- line 1: where it ends, and what it says
+
+pub record LineRead (s : List ℕ) (r : FirstLine) : Type 0 where
+  pub next : r .next ≡ headLine s
+  pub name : r .name ≡ nameIn s
+  pub cts : r .cts ≡ ctsIn s
+  pub count : r .count ≡ countIn s
 
 -- ---- the first two lines: their fault or none, what they say and where they end. Lines that are refused say nothing, as zeros
 
@@ -27,10 +36,11 @@ pub record HeadRead (s : List ℕ) (r : Head) : Type 0 where
   pub found : shown (r .found) ≡ headFault s
   pub name : r .name ≡ unlessRefused (headFault s) (nameIn s) (pos 0)
   pub cts : r .cts ≡ unlessRefused (headFault s) (ctsIn s) (pos 0)
+  pub hours : r .hours ≡ unlessRefused (headFault s) (hoursIn s) 0
   pub next : r .next ≡ unlessRefused (headFault s) (placeIn (headPlace s)) 0
 
 abbrev pub refusedHead : Check → Head
-refusedHead check = record { found = Fault check; name = pos 0; cts = pos 0; next = 0 }
+refusedHead check = record { found = Fault check; name = pos 0; cts = pos 0; hours = 0; next = 0 }
 
 -- ---- a block: the first line that is not as printed, from 1, or 0 and the record. No record goes with a broken block
 
@@ -45,10 +55,10 @@ abbrev pub importReadOf : ImportBlock → ImportRead
 importReadOf (broken line) = record { broken = line; hour = noImportHour }
 importReadOf (read h) = record { broken = 0; hour = h }
 
--- ---- what a block is worth as block k of its day
+-- ---- what a block is worth as block k of a day of so many hours
 
-abbrev pub blockWorth : (cts : ℤ) → ImportBlock → (k : ℕ) → Verdict × ℤ
-blockWorth cts b k = worthBy (blockVerdict b k) (blockPart cts b)
+abbrev pub blockWorth : (cts : ℤ) → (hours : ℕ) → ImportBlock → (k : ℕ) → Verdict × ℤ
+blockWorth cts hours b k = worthBy (blockVerdict hours b k) (blockPart cts b)
 
 -- ---- the refusal of block k, handed on with its hour. A part is no refusal: were one handed on, it would be FORM at line 0, which no block has
 

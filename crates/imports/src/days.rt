@@ -4,6 +4,7 @@ ghost use Prim.Native.Nat.{_≤_};
 ghost use lib.IntN.{_+ℤ_};
 ghost use lib.ListN.{length, drop};
 ghost use Rattle.exact.specs.Whole.{Within};
+ghost use Rattle.tariff.specs.Sheet.{LONGEST-DAY};
 ghost use Rattle.tariff.specs.Reply.{clear};
 ghost use Rattle.tariff.specs.Import.{worthTold, importTold};
 ghost use Rattle.imports.specs.Import.{importBlockAt, replyUnder};
@@ -15,10 +16,10 @@ use tariff::ImportAnswer;
 use tariff::ImportFault;
 use tariff::Worth;
 
-// What the block that begins at a place is worth, as block k of its day.
-pub fn settle_block(s: &[u8], at: usize, cts: i64, k: usize) -> Worth
+// What the block that begins at a place is worth, as block k of a day of so many hours.
+pub fn settle_block(s: &[u8], at: usize, cts: i64, k: usize, hours: usize) -> Worth
     requires { ⌜ at ≤ length (now s) ⌝ }
-    ensures { λ r. ⌜ worthTold r ≡ blockWorth cts (importBlockAt (drop at (now (s .entry))) 0) k ⌝ }
+    ensures { λ r. ⌜ worthTold r ≡ blockWorth cts hours (importBlockAt (drop at (now (s .entry))) 0) k ⌝ }
 {
     let rest = &s[at..];
     let read = block::read_block(rest, 0);
@@ -27,7 +28,7 @@ pub fn settle_block(s: &[u8], at: usize, cts: i64, k: usize) -> Worth
         return Worth::Refused(Check::Form(broken));
     }
     let hour = read.hour;
-    intervals::import_part(hour, cts, k)
+    intervals::import_part(hour, cts, k, hours)
 }
 
 // The day's sum with a block's part more.
@@ -49,16 +50,16 @@ pub fn handed_on(answer: Worth, k: usize) -> ImportAnswer
     }
 }
 
-// The first `hours` blocks from a place on.
+// The blocks of a day of so many hours, from a place on.
 pub fn settle_blocks(s: &[u8], at: usize, name: i64, cts: i64, hours: usize) -> ImportAnswer
-    requires { ⌜ (at ≤ length (now s)) × (hours ≤ 24) ⌝ }
+    requires { ⌜ (at ≤ length (now s)) × (hours ≤ LONGEST-DAY) ⌝ }
     ensures { λ r. ⌜ importTold r ≡ replyUnder clear name cts hours (drop at (now (s .entry))) ⌝ }
 {
     let mut sum = Grains(0);
     let mut i = at;
     let mut k: usize = 0;
     while k < hours {
-        let answer = settle_block(s, i, cts, k);
+        let answer = settle_block(s, i, cts, k, hours);
         let Worth::Part(grains) = answer else {
             return handed_on(answer, k);
         };

@@ -13,11 +13,12 @@ use Rattle.exact.proofs.Parts.{by-test}
 use Rattle.text.specs.Text.{bytes}
 use Rattle.lines.specs.Cut.{behind}
 use Rattle.lines.specs.Pieces.{PIECE, restAfter, firstPiece, isSome}
+use Rattle.lines.proofs.Behind.{behindIn, behind-is}
+use Rattle.lines.proofs.First.{firstIn, first-is}
 use Rattle.intake.specs.declared.Intake.{Intake}
 use Rattle.intake.specs.Intake.{kept, after, keptOf, placed, hasRoom, afterAll, storeAll, atFirst}
 use Rattle.intake.proofs.Step.{Step, first, later, copied, closed, passed, cut, told, step, counted}
 use Rattle.intake.proofs.Store.{Same, one-more, no-room, placed-length}
-use Rattle.intake.proofs.Pieces.{behindIn, firstIn, behind-is, first-is}
 
 -- ---- a text in two parts: the second goes on where the first left the store and the state
 

@@ -1,8 +1,9 @@
 -- Laws of what is kept of a text, byte by byte and piece by piece.
+pub mod Squeezes
 pub mod Step
 pub mod Store
 pub mod Stretches
-pub mod Pieces
 pub mod Kept
-pub mod Taken
+pub mod Past
+pub mod Arrived
 pub mod Unique

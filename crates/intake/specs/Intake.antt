@@ -1,7 +1,7 @@
--- A text of any length in bounded memory: of each piece, cut at the empty lines, a program keeps the first 10,640 bytes, which decide it,
--- and its empty line; of what follows the last piece, one byte.
+-- A text of any length in bounded memory: of each piece, cut at the empty lines, a program keeps the first 10,640 bytes, which decide it (a
+-- header once it is squeezed), and its empty line; of what follows the last piece, one byte.
 use mathlib.Core.Path.{_≡_}
-use mathlib.Core.Bool.{Bool, true, _&&_}
+use mathlib.Core.Bool.{Bool, true, false, not, _&&_}
 use mathlib.Core.List.{List, [], _∷_, _++_}
 use Prim.Native.Nat.{ℕ, _+_, _-_}
 use lib.Dec.{ltb, leb, eqb}
@@ -10,6 +10,8 @@ use Rattle.exact.specs.Choice.{if_then_else_}
 use Rattle.lines.specs.Pieces.{PIECE}
 use Rattle.text.specs.Text.{LF, bytes}
 use Rattle.intake.specs.declared.Intake.{Intake}
+use Rattle.intake.specs.declared.Taken.{Taken}
+use Rattle.intake.specs.Squeeze.{squeezeFirst, squeezedBy, squeezeAfter}
 
 -- an empty line closes a piece
 abbrev pub closesPiece : Intake → ℕ → Bool
@@ -55,12 +57,37 @@ unfoldable pub storeAll : List ℕ → Intake → List ℕ → List ℕ
 storeAll store i [] = store
 storeAll store i (b ∷ t) = if hasRoom store i then storeAll (placed store (i .n) (kept i b)) (after i b) t else store
 
+-- the pieces of the longest day: its header, and a block for each hour
+abbrev pub PIECES : ℕ
+PIECES = 26
+
 -- a text of `pieces` at its beginning
 abbrev pub atFirst : ℕ → Intake
 atFirst pieces = record { n = 0; run = 0; start = true; left = pieces }
 
--- some text was taken in from its beginning: the store holds what is kept of it, and so many bytes are
-pub record TakenIn (store : List ℕ) (pieces : ℕ) (last : List ℕ) (count : ℕ) : Type 0 where
+-- ---- a text that comes in reads
+
+-- at its beginning, which is a header's or not
+abbrev pub begun : (pieces : ℕ) → (header : Bool) → Taken
+begun pieces header = record { kept = atFirst pieces; squeezed = squeezeFirst header; ended = false }
+
+-- a part of it came, perhaps none: the store holds what is kept of that too
+pub record TakenMore (store : List ℕ) (t : Taken) (last : List ℕ) (r : Taken) : Type 0 where
+  pub part : List ℕ
+  pub squeezing : r .squeezed ≡ squeezeAfter (t .squeezed) part
+  pub state : r .kept ≡ afterAll store (t .kept) (squeezedBy (t .squeezed) part)
+  pub holds : last ≡ storeAll store (t .kept) (squeezedBy (t .squeezed) part)
+
+-- some text was taken in from its beginning, its header squeezed where it has one: the store holds what is kept of it, and so many
+-- bytes are
+pub record TakenIn (store : List ℕ) (pieces : ℕ) (header : Bool) (last : List ℕ) (count : ℕ) : Type 0 where
   pub text : List ℕ
-  pub counted : count ≡ afterAll store (atFirst pieces) text .n
-  pub holds : last ≡ storeAll store (atFirst pieces) text
+  pub counted : count ≡ afterAll store (atFirst pieces) (squeezedBy (squeezeFirst header) text) .n
+  pub holds : last ≡ storeAll store (atFirst pieces) (squeezedBy (squeezeFirst header) text)
+
+-- a byte is kept behind the first `needed` of so many pieces
+unfoldable pub goesPast : Intake → (pieces needed : ℕ) → Bool
+goesPast i pieces needed =
+    if ltb pieces (i .left)
+    then false
+    else (if eqb needed (pieces - i .left) then not (eqb (i .run) 0) else ltb needed (pieces - i .left))

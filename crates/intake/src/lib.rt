@@ -1,17 +1,17 @@
-// Standard input of any length in bounded memory: what of a text decides its answers.
+// A text of any length in bounded memory: what of it decides its answers.
 ghost use mathlib.Core.Path.{_≡_};
 ghost use mathlib.Core.Bool.{true};
 ghost use Prim.Native.Nat.{_+_, _-_, _≤_};
 ghost use lib.ListN.{length};
-ghost use Rattle.io.specs.Counts.{Counts};
 ghost use Rattle.lines.specs.Pieces.{PIECE};
-ghost use Rattle.intake.specs.Intake.{after, kept, placed, afterAll, storeAll, atFirst, TakenIn};
+ghost use Rattle.intake.specs.Intake.{after, kept, placed, afterAll, storeAll, atFirst, begun, TakenMore, goesPast};
 use libc::STDIN_FILENO;
 
+mod squeeze;
 mod stretch;
 
-// A day is a header and 24 blocks. Of each piece at most lines::PIECE bytes and three more are kept, and a byte of what follows.
-pub const PIECES: usize = 25;
+// The longest day is a header and 25 blocks. Of each piece at most lines::PIECE bytes and three more are kept, and a byte of what follows.
+pub const PIECES: usize = 26;
 
 pub const DAY: usize = PIECES * (lines::PIECE + 3) + 5;
 
@@ -159,29 +159,63 @@ pub fn keep(store: &mut [u8], i: Intake, bytes: &[u8]) -> Intake
     state
 }
 
-// Takes in standard input to its end, or until no further byte can matter; answers how many bytes of the store are kept. Which bytes a
-// read brings cannot be said: the store is what some text leaves, the reads one behind the other. Nothing says that an input ends, so the
-// turns are counted down from a number that no run uses up.
-pub fn take_in(store: &mut [u8], pieces: usize) -> usize
-    ensures within { λ r. ⌜ Counts r (now (store .exit)) ⌝ }
-    ensures taken { λ r. ⌜ TakenIn (now (store .entry)) pieces (now (store .exit)) r ⌝ }
+// A text that comes in reads: what is kept, how far its header is squeezed, and whether its end was met.
+pub struct Taken {
+    pub kept: Intake,
+    pub squeezed: squeeze::Squeeze,
+    pub ended: bool,
+}
+
+// A text at its beginning. That of a day's sheet has a header.
+pub fn begin(pieces: usize, header: bool) -> Taken
+    ensures { λ r. ⌜ r ≡ begun pieces header ⌝ }
+{
+    Taken {
+        kept: at_first(pieces),
+        squeezed: squeeze::at_first(header),
+        ended: false,
+    }
+}
+
+// Takes in what one read of standard input brings. Which bytes that are cannot be said: the store is what some of them leave.
+pub fn take_some(store: &mut [u8], taken: Taken) -> Taken
+    ensures { λ r. ⌜ TakenMore (now (store .entry)) taken (now (store .exit)) r ⌝ }
 {
     let mut chunk = io::large_buffer();
-    let mut i = at_first(pieces);
-    let mut turns = u64::MAX;
-    while turns > 0 {
-        let got = libc::read(STDIN_FILENO, &mut chunk);
-        if got <= 0 {
-            return i.n;
-        }
-        let n = io::count(got, &chunk);
-        i = keep(store, i, &chunk[..n]);
-        if i.left == 0 {
-            if i.run != 0 {
-                return i.n;
-            }
-        }
-        turns -= 1;
+    let kept = taken.kept;
+    let squeezed = taken.squeezed;
+    let got = libc::read(STDIN_FILENO, &mut chunk);
+    if got <= 0 {
+        return Taken {
+            kept,
+            squeezed,
+            ended: true,
+        };
     }
-    i.n
+    let n = io::count(got, &chunk);
+    let part = squeeze::in_place(&mut chunk, n, squeezed);
+    let m = part.n;
+    let squeezed = part.state;
+    let kept = keep(store, kept, &chunk[..m]);
+    Taken {
+        kept,
+        squeezed,
+        ended: false,
+    }
+}
+
+// Whether a byte stands behind the first `needed` of so many pieces: then no further one can matter.
+pub fn goes_past(i: Intake, pieces: usize, needed: usize) -> bool
+    ensures { λ r. ⌜ r ≡ goesPast i pieces needed ⌝ }
+{
+    let left = i.left;
+    let run = i.run;
+    if pieces < left {
+        return false;
+    }
+    let closed = pieces - left;
+    if needed == closed {
+        return run != 0;
+    }
+    needed < closed
 }

@@ -14,6 +14,7 @@ use Rattle.tariff.specs.declared.DayAhead.{DayAhead}
 use Rattle.tariff.specs.declared.Found.{Found}
 use Rattle.tariff.specs.declared.Found.the-variants.{Nothing, Fault}
 use Rattle.tariff.specs.declared.Hour.{Hour}
+use Rattle.tariff.specs.declared.Expected.{Expected}
 use Rattle.tariff.specs.declared.Interval.{Interval}
 use Rattle.tariff.specs.Sheet.{aheadInRange, curveInRange, intervalInRange}
 use Rattle.tariff.specs.Derate.{exceedsRoom}
@@ -91,9 +92,9 @@ either : (P : Curve → Type 0) (lower : Bool) {da rt : Curve} → P da → P rt
 either P true x y = x
 either P false x y = y
 
-module _ (h : Hour) (ok : (form h ≡ clear) × (range h ≡ clear)) where
+module _ (h : Hour) (ok : (form h ≡ clear) × (expected : Expected) × (range h expected ≡ clear)) where
   pub in-range : {i : ℕ} → i < h .n → (aheadInRange (h .ahead) ≡ true) × (intervalInRange (interval h i) ≡ true)
-  in-range {i} u = let r = range-says h (ok .1) in (r .1, r .4 i u)
+  in-range {i} u = let r = range-says h (ok .1) (ok .2) in (r .1, r .4 i u)
 
   asked-fits : (isExcluded : Bool) (i : ℕ) → i < h .n → Fitting (asked h isExcluded i)
   asked-fits true i u = idle-fits Nothing
@@ -106,7 +107,7 @@ module _ (h : Hour) (ok : (form h ≡ clear) × (range h ≡ clear)) where
   pub tasks-walkable : (isExcluded : Bool) {tasks : List Task} → TasksOf (asked h isExcluded) (h .n) tasks → Walkable tasks (h .n) (h .da) (h .rt)
   tasks-walkable isExcluded t =
       let n = form-says h (ok .0) in
-      let r = range-says h (ok .1) in
+      let r = range-says h (ok .1) (ok .2) in
       record {
         few = n .2;
         fits = λ i u. rw (t .each i u) (asked-fits isExcluded i u);

@@ -18,11 +18,11 @@ use Rattle.intervals.specs.declared.Contributions.{Contributions}
 use Rattle.intervals.specs.Walk.{grainsAt, WalkedTo, refusedBy, ContributionsBy}
 
 -- without faults 1 to 5 the counts and the numbers are in their ranges
-pub no-fault-says : (h : Hour) (expected : Expected) → blockFault h expected ≡ clear → (form h ≡ clear) × (range h ≡ clear) × (h .n ≤ 30)
+pub no-fault-says : (h : Hour) (expected : Expected) → blockFault h expected ≡ clear → (form h ≡ clear) × (range h expected ≡ clear) × (h .n ≤ 30)
 no-fault-says h expected e =
     let later = order h expected then curves h then secondsSum h in
-    let p = then-clear (form h) (range h then later) e in
-    (p .0, then-clear (range h) later (p .1) .0, form-says h (p .0) .2)
+    let p = then-clear (form h) (range h expected then later) e in
+    (p .0, then-clear (range h expected) later (p .1) .0, form-says h (p .0) .2)
 
 module _ {block : Verdict} {outcome : ℕ → Outcome} {n : ℕ} where
   refused : (r : Contributions) (check : Check) → r ≡ refusedBy (Fault check) → (block then firstStop outcome n) ≡ shown (Fault check)

@@ -1,5 +1,6 @@
 // The intervals of a curtailed import's block: which of them count, what each gives, and their sum.
 ghost use mathlib.Core.Path.{_≡_};
+ghost use Prim.Native.Nat.{ℕ};
 ghost use Rattle.exact.specs.Whole.{Within};
 ghost use Rattle.tariff.specs.declared.ImportHour.{ImportHour};
 ghost use Rattle.tariff.specs.Reply.{clear};
@@ -40,9 +41,9 @@ pub fn curtailed_part(den: Kw, dec: Price, v: Curtailed, cts: i64) -> Grains
     sums::product(gap, gain, v.s)
 }
 
-// What the block's intervals give together, whatever its sign.
+// What the block's intervals give together, whatever its sign; its numbers are in range on some day.
 pub fn curtailed_sum(h: ImportHour, cts: i64) -> Grains
-    requires { ⌜ (importForm h ≡ clear) × (importRange h ≡ clear) ⌝ }
+    requires { ⌜ ((importForm h ≡ clear) × (hours : ℕ) × (importRange hours h ≡ clear)) ⌝ }
     ensures { λ r. ⌜ r .0 ≡ importSum cts h ⌝ }
 {
     let den = h.den;

@@ -76,11 +76,11 @@ pub fn work_out(h: Hour, excluded: bool, expected: Expected) -> Contributions
     }
 }
 
-// What an import's block gives to its day: the sum of its counting intervals, or 0 where that is below 0.
-pub fn import_part(h: ImportHour, cts: i64, k: usize) -> Worth
-    ensures { λ r. ⌜ worthTold r ≡ worthBy (importFault h k) (importPart cts h) ⌝ }
+// What the block at place k gives to an import's day of so many hours: the sum of its counting intervals, or 0 where that is below 0.
+pub fn import_part(h: ImportHour, cts: i64, k: usize, hours: usize) -> Worth
+    ensures { λ r. ⌜ worthTold r ≡ worthBy (importFault hours h k) (importPart cts h) ⌝ }
 {
-    let fault = checks::import_fault(h, k);
+    let fault = checks::import_fault(h, k, hours);
     if let Found::Fault(check) = fault {
         return Worth::Refused(check);
     }

@@ -2,6 +2,7 @@
 ghost use mathlib.Core.Path.{_≡_};
 ghost use mathlib.Core.Bool.{true};
 ghost use Rattle.exact.specs.Whole.{Within};
+ghost use Rattle.tariff.specs.declared.Expected.{Expected};
 ghost use Rattle.tariff.specs.Sheet.{aheadInRange, intervalInRange};
 ghost use Rattle.tariff.specs.Contributions.{capped};
 ghost use Rattle.tariff.specs.Reply.{clear};
@@ -79,9 +80,10 @@ pub fn task_of(a: DayAhead, v: Interval, place: usize) -> Task
     }
 }
 
-// What each interval asks, first to last. An excluded hour asks checks 6 and 7 of no interval, and each contributes nothing.
+// What each interval asks, first to last; the block's numbers are in range on some day. An excluded hour asks checks 6 and 7 of no
+// interval, and each contributes nothing.
 pub fn tasks_of(h: Hour, excluded: bool) -> [Task; 30]
-    requires { ⌜ (form h ≡ clear) × (range h ≡ clear) ⌝ }
+    requires { ⌜ ((form h ≡ clear) × (expected : Expected) × (range h expected ≡ clear)) ⌝ }
     ensures { λ r. ⌜ TasksOf (asked h excluded) (h .n) r ⌝ }
 {
     let mut tasks = [idle(Found::Nothing); 30];

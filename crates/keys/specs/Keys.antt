@@ -36,10 +36,10 @@ reserveKeys = bytes " r1=" ∷ bytes " r2=" ∷ bytes " r3=" ∷ bytes " p1=" �
 abbrev pub regulationKeys : List (List ℕ)
 regulationKeys = bytes " reg=" ∷ bytes " preg=" ∷ bytes " breg=" ∷ bytes " mv=" ∷ bytes " pmv=" ∷ bytes " bmv=" ∷ []
 
--- ---- an import: its first line, line 1 of its blocks, and their interval lines
+-- ---- an import: its first line, where `hours` may be left out, line 1 of its blocks, and their interval lines
 
 abbrev pub importKeys : List (List ℕ)
-importKeys = bytes "import=" ∷ bytes " cts=" ∷ []
+importKeys = bytes "import=" ∷ bytes " cts=" ∷ bytes " hours=" ∷ []
 
 abbrev pub importHourKeys : List (List ℕ)
 importHourKeys = bytes "hour=" ∷ bytes " den=" ∷ bytes " dec=" ∷ []
@@ -48,11 +48,11 @@ abbrev pub curtailedKeys : List (List ℕ)
 curtailedKeys =
     bytes "s=" ∷ bytes " cut=" ∷ bytes " prof=" ∷ bytes " rten=" ∷ bytes " lbmp=" ∷ bytes " bid=" ∷ bytes " def=" ∷ []
 
--- ---- a day's header, a key to a line: three numbers, and seven rows of digits
+-- ---- a day's header, a key to a line: up to four numbers, since form 1 has no `hours`, and seven rows of digits
 
 abbrev pub headerKeys : List (List ℕ)
 headerKeys =
-    bytes "form=" ∷ bytes "unit=" ∷ bytes "rtc="
+    bytes "form=" ∷ bytes "hours=" ∷ bytes "unit=" ∷ bytes "rtc="
     ∷ bytes "cat=" ∷ bytes "x1=" ∷ bytes "x2=" ∷ bytes "x3=" ∷ bytes "x4=" ∷ bytes "x5=" ∷ bytes "x6=" ∷ []
 
 -- ---- the table
@@ -93,46 +93,50 @@ abbrev pub IMPORT : ℕ
 IMPORT = 36
 
 abbrev pub IMPORT-HOUR : ℕ
-IMPORT-HOUR = 38
+IMPORT-HOUR = 39
 
 abbrev pub CURTAILED : ℕ
-CURTAILED = 41
+CURTAILED = 42
 
 abbrev pub HEADER : ℕ
-HEADER = 48
+HEADER = 49
 
 -- the key of each of its lines
 abbrev pub FORM-LINE : ℕ
-FORM-LINE = 48
+FORM-LINE = 49
+
+abbrev pub HOURS-LINE : ℕ
+HOURS-LINE = 50
 
 abbrev pub UNIT-LINE : ℕ
-UNIT-LINE = 49
+UNIT-LINE = 51
 
 abbrev pub RTC-LINE : ℕ
-RTC-LINE = 50
+RTC-LINE = 52
 
 abbrev pub CAT-LINE : ℕ
-CAT-LINE = 51
+CAT-LINE = 53
 
 abbrev pub X1-LINE : ℕ
-X1-LINE = 52
+X1-LINE = 54
 
 abbrev pub X2-LINE : ℕ
-X2-LINE = 53
+X2-LINE = 55
 
 abbrev pub X3-LINE : ℕ
-X3-LINE = 54
+X3-LINE = 56
 
 abbrev pub X4-LINE : ℕ
-X4-LINE = 55
+X4-LINE = 57
 
 abbrev pub X5-LINE : ℕ
-X5-LINE = 56
+X5-LINE = 58
 
 abbrev pub X6-LINE : ℕ
-X6-LINE = 57
+X6-LINE = 59
 
 its-lines : (keyOf FORM-LINE ≡ bytes "form=")
+    × (keyOf HOURS-LINE ≡ bytes "hours=")
     × (keyOf UNIT-LINE ≡ bytes "unit=")
     × (keyOf RTC-LINE ≡ bytes "rtc=")
     × (keyOf CAT-LINE ≡ bytes "cat=")
@@ -142,11 +146,11 @@ its-lines : (keyOf FORM-LINE ≡ bytes "form=")
     × (keyOf X4-LINE ≡ bytes "x4=")
     × (keyOf X5-LINE ≡ bytes "x5=")
     × (keyOf X6-LINE ≡ bytes "x6=")
-its-lines = (refl, refl, refl, refl, refl, refl, refl, refl, refl, refl)
+its-lines = (refl, refl, refl, refl, refl, refl, refl, refl, refl, refl, refl)
 
 -- the count of all keys
 abbrev pub KEYS : ℕ
-KEYS = 58
+KEYS = 60
 
 -- each follows the keys of the kind before it
 places : (DA ≡ AHEAD + length aheadKeys)

@@ -24,33 +24,35 @@ pub const REGULATION: usize = 30;
 // the first line of an import, line 1 of its blocks, and their interval lines;
 pub const IMPORT: usize = 36;
 
-pub const IMPORT_HOUR: usize = 38;
+pub const IMPORT_HOUR: usize = 39;
 
-pub const CURTAILED: usize = 41;
+pub const CURTAILED: usize = 42;
 // and a day's header, a key to a line,
-pub const HEADER: usize = 48;
+pub const HEADER: usize = 49;
 // each of which has a name.
-pub const FORM_LINE: usize = 48;
+pub const FORM_LINE: usize = 49;
 
-pub const UNIT_LINE: usize = 49;
+pub const HOURS_LINE: usize = 50;
 
-pub const RTC_LINE: usize = 50;
+pub const UNIT_LINE: usize = 51;
 
-pub const CAT_LINE: usize = 51;
+pub const RTC_LINE: usize = 52;
 
-pub const X1_LINE: usize = 52;
+pub const CAT_LINE: usize = 53;
 
-pub const X2_LINE: usize = 53;
+pub const X1_LINE: usize = 54;
 
-pub const X3_LINE: usize = 54;
+pub const X2_LINE: usize = 55;
 
-pub const X4_LINE: usize = 55;
+pub const X3_LINE: usize = 56;
 
-pub const X5_LINE: usize = 56;
+pub const X4_LINE: usize = 57;
 
-pub const X6_LINE: usize = 57;
+pub const X5_LINE: usize = 58;
+
+pub const X6_LINE: usize = 59;
 // The count of all keys.
-pub const KEYS: usize = 58;
+pub const KEYS: usize = 60;
 
 // The one key whose number may be missing, `uol`.
 pub const UOL: usize = 23;

@@ -89,14 +89,15 @@ pub fn regulation_key(s: &[u8], at: usize, k: usize) -> Next
 
 // An import's first line, and line 1 of its blocks.
 pub fn import_key(s: &[u8], at: usize, k: usize) -> Next
-    requires { ⌜ k < 5 ⌝ }
+    requires { ⌜ k < 6 ⌝ }
     ensures { λ r. ⌜ r ≡ keyAt (keyOf (IMPORT + k)) (now (s .entry)) at ⌝ }
 {
     match k {
         0 => text::key_at(s, at, b"import="),
         1 => text::key_at(s, at, b" cts="),
-        2 => text::key_at(s, at, b"hour="),
-        3 => text::key_at(s, at, b" den="),
+        2 => text::key_at(s, at, b" hours="),
+        3 => text::key_at(s, at, b"hour="),
+        4 => text::key_at(s, at, b" den="),
         _ => text::key_at(s, at, b" dec="),
     }
 }
@@ -119,19 +120,20 @@ pub fn curtailed_key(s: &[u8], at: usize, k: usize) -> Next
 
 // A day's header, a key to a line.
 pub fn header_key(s: &[u8], at: usize, k: usize) -> Next
-    requires { ⌜ k < 10 ⌝ }
+    requires { ⌜ k < 11 ⌝ }
     ensures { λ r. ⌜ r ≡ keyAt (keyOf (HEADER + k)) (now (s .entry)) at ⌝ }
 {
     match k {
         0 => text::key_at(s, at, b"form="),
-        1 => text::key_at(s, at, b"unit="),
-        2 => text::key_at(s, at, b"rtc="),
-        3 => text::key_at(s, at, b"cat="),
-        4 => text::key_at(s, at, b"x1="),
-        5 => text::key_at(s, at, b"x2="),
-        6 => text::key_at(s, at, b"x3="),
-        7 => text::key_at(s, at, b"x4="),
-        8 => text::key_at(s, at, b"x5="),
+        1 => text::key_at(s, at, b"hours="),
+        2 => text::key_at(s, at, b"unit="),
+        3 => text::key_at(s, at, b"rtc="),
+        4 => text::key_at(s, at, b"cat="),
+        5 => text::key_at(s, at, b"x1="),
+        6 => text::key_at(s, at, b"x2="),
+        7 => text::key_at(s, at, b"x3="),
+        8 => text::key_at(s, at, b"x4="),
+        9 => text::key_at(s, at, b"x5="),
         _ => text::key_at(s, at, b"x6="),
     }
 }

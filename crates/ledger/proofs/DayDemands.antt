@@ -1,7 +1,7 @@
 -- The theorems of the definitions of a day: what its hours are answered, the marks, demand 3, the total, and bounded memory. Those of a
--- `Front` hold of every sheet's, `frontOf hours s`.
+-- `Front` hold of every sheet's, `frontOf s`.
 use mathlib.Core.Path.{_≡_, refl, sym, ap, _∙_, subst}
-use mathlib.Core.Bool.{false}
+use mathlib.Core.Bool.{true, false}
 use mathlib.Core.List.{List, [], _∷_, _++_}
 use mathlib.Core.Logic.{_↔_}
 use Prim.Native.Nat.{ℕ, suc, _+_, _≤_, _<_}
@@ -11,7 +11,8 @@ use Rattle.exact.specs.Whole.{sumTo}
 use Rattle.exact.proofs.Parts.{true-eqZ}
 use Rattle.tariff.specs.declared.Hour.{Hour}
 use Rattle.tariff.specs.declared.Expected.the-variants.{Any, Says}
-use Rattle.tariff.specs.Reply.{paid, refused, ORDER, DERATE, REACH, Verdict, clear, fault, otherwise}
+use Rattle.tariff.specs.Sheet.{LONGEST-DAY}
+use Rattle.tariff.specs.Reply.{paid, refused, ORDER, DERATE, REACH, clear, fault}
 use Rattle.tariff.specs.Eligible.{near, excluded}
 use Rattle.tariff.specs.Outcome.{replyBy}
 use Rattle.tariff.specs.Hour.{range, order, reply}
@@ -19,9 +20,11 @@ use Rattle.tariff.specs.Demand.{FirstUnpriced, UnpricedBeforeDerate, ExceededBe
 use Rattle.tariff.specs.Total.{total, noTotal, totalOf, Pays, paidCents}
 use Rattle.tariff.proofs.Demands.{order-exactly-when-another-hour}
 use Rattle.tariff.proofs.Totals.{total-paid, total-refused, total-surplus}
+use Rattle.tariff.proofs.Counts.{hours-few, own-hour}
 use Rattle.marks.specs.Alike.{AlikeBut, AlikeToX4}
 use Rattle.marks.proofs.Far.{a-mark-moves-no-further-than-two, without-rtc}
 use Rattle.lines.specs.Pieces.{restAfter, isSome, piece}
+use Rattle.lines.specs.Squeezed.{squeezed}
 use Rattle.intake.specs.Intake.{keptOf, atFirst}
 use Rattle.blocks.specs.Block.{blockOf, read}
 use Rattle.sheet.specs.Settle.{replyTo}
@@ -31,15 +34,19 @@ use Rattle.sheet.proofs.BlockDemands.{
   block-refused-for-reach-exactly-when-some-kilowatt-is-unpriced,
   block-refused-for-derate-exactly-when-some-reduction-exceeds,
 }
-use Rattle.header.specs.Header.{marksOf}
-use Rattle.ledger.specs.Day.{Front, frontOf, hourReply, dayReply, surplus, dayTotal}
+use Rattle.header.specs.Header.{countOf, marksOf}
+use Rattle.ledger.specs.Day.{Front, frontOf, dayReply, surplus, dayTotal}
 use Rattle.ledger.specs.Demand.{SettledAlike, BlocksApart, PricedAlike, DaysApart, BothRead}
-use Rattle.ledger.proofs.HourOfDay.{hour-clear, own-block, read-reply, nothing-left}
-use Rattle.ledger.proofs.SheetFront.{marks-settle, front-append, kept-settled}
+use Rattle.ledger.proofs.HourOfDay.{refused-hour, hour-clear, own-block, read-reply, nothing-left}
+use Rattle.ledger.proofs.SheetFront.{marks-settle, front-append, kept-settled, append-settled}
 use Rattle.ledger.proofs.BlocksApart.{blocks-alike, blocks-extended, blocks-added}
 use Rattle.ledger.proofs.TwoDays.{one-hour, other-hour, hours-settled}
 
 -- ---- the hours of a day
+
+-- No sheet's day has more than 25.
+pub no-day-is-longer : (s : List ℕ) → frontOf s .hours ≤ LONGEST-DAY
+no-day-is-longer s = hours-few (countOf s)
 
 -- A refused header refuses every hour, with its own number and place.
 pub a-refused-header-refuses-every-hour :
@@ -47,8 +54,7 @@ pub a-refused-header-refuses-every-hour :
     → f .fault ≡ fault number place
     → (k : ℕ)
     → dayReply f k ≡ refused number place
-unfolding dayReply
-a-refused-header-refuses-every-hour f number place e k = ap (λ (v : Verdict). otherwise v (hourReply f k)) e
+a-refused-header-refuses-every-hour = refused-hour
 
 -- An hour of a day is its block's: the answer of the block call on that block's own bytes, excluded as the day's front says, with its
 -- place as the expected hour, and with any lent row of 30 entries or more.
@@ -57,7 +63,7 @@ pub an-hour-of-a-day-is-its-blocks :
     → f .fault ≡ clear
     → (k room : ℕ)
     → 30 ≤ room
-    → dayReply f k ≡ replyTo (blockOf (piece k (f .body))) (f .isExcluded k) (Says (pos k)) room
+    → dayReply f k ≡ replyTo (blockOf (piece k (f .body))) (f .isExcluded k) (Says (pos k) (f .hours)) room
 an-hour-of-a-day-is-its-blocks f e k room h = hour-clear f e k ∙ own-block f k room h
 
 -- ORDER is given exactly when block k says another hour than k and its numbers are in their ranges, at 1.
@@ -67,55 +73,60 @@ pub another-hour-is-order :
     → (k : ℕ) (h : Hour)
     → blockOf (piece k (f .body)) ≡ read h
     → (place : ℕ)
-    → (dayReply f k ≡ refused ORDER place) ↔ ((range h ≡ clear) × (place ≡ 1) × (h .hour ≡ pos k → ⊥))
+    → (dayReply f k ≡ refused ORDER place) ↔ ((range h (Says (pos k) (f .hours)) ≡ clear) × (place ≡ 1) × (h .hour ≡ pos k → ⊥))
 another-hour-is-order f e k h x place =
     let own = read-reply f e k h x in
-    let it = order-exactly-when-another-hour h (f .isExcluded k) (Says (pos k)) 30 place in (
+    let it = order-exactly-when-another-hour h (f .isExcluded k) (Says (pos k) (f .hours)) 30 place in (
       λ d. let w = it .0 (sym own ∙ d) in (w .1, w .2, λ q. w .3 .other (let a = w .3 .asked in cc)),
-      λ w. own ∙ it .1 (read-sound _ h x .form, w .0, w .1, record { hour = pos k; asked = refl; other = w .2 }),
+      λ w. own ∙ it .1 (read-sound _ h x .form, w .0, w .1, record { hour = pos k; hours = f .hours; asked = refl; other = w .2 }),
     )
 
 -- A block that says the hour of its place is answered as where any hour may be said.
 pub its-own-hour-is-as-any :
     (f : Front)
     → f .fault ≡ clear
+    → f .hours ≤ LONGEST-DAY
     → (k : ℕ) (h : Hour)
+    → k < f .hours
     → blockOf (piece k (f .body)) ≡ read h
     → h .hour ≡ pos k
     → dayReply f k ≡ reply h (f .isExcluded k) Any 30
-unfolding replyBy order
-its-own-hour-is-as-any f e k h x own = read-reply f e k h x ∙ rw (true-eqZ (h .hour) (pos k) own)
+unfolding replyBy range order
+its-own-hour-is-as-any f e few k h u x own =
+    read-reply f e k h x ∙ rw (true-eqZ (h .hour) (pos k) own, own, own-hour (f .hours) k u few, own-hour LONGEST-DAY k (omega arith) (omega arith))
 
 -- ---- the marks
 
 -- A mark moves the answers of its own hour and of at most two before and after: two sheets with the same blocks whose marks are alike
 -- in every hour but g are answered alike in every hour that is further from g.
 pub a-mark-moves-no-hour-further-than-two :
-    (hours : ℕ) (s t : List ℕ)
-    → frontOf hours s .fault ≡ clear
-    → frontOf hours t .fault ≡ clear
-    → frontOf hours s .body ≡ frontOf hours t .body
+    (s t : List ℕ)
+    → frontOf s .fault ≡ clear
+    → frontOf t .fault ≡ clear
+    → frontOf s .hours ≡ frontOf t .hours
+    → frontOf s .body ≡ frontOf t .body
     → (g : ℕ)
-    → AlikeBut g (marksOf hours s) (marksOf hours t)
+    → AlikeBut g (marksOf s) (marksOf t)
     → (k : ℕ)
     → near g k ≡ false
-    → dayReply (frontOf hours s) k ≡ dayReply (frontOf hours t) k
-a-mark-moves-no-hour-further-than-two hours s t one other body g alike k far =
-    marks-settle hours s t one other body k (a-mark-moves-no-further-than-two hours (marksOf hours s) (marksOf hours t) g k alike far)
+    → dayReply (frontOf s) k ≡ dayReply (frontOf t) k
+a-mark-moves-no-hour-further-than-two s t one other hours body g alike k far =
+    marks-settle s t one other hours body k (λ n. a-mark-moves-no-further-than-two n (marksOf s) (marksOf t) g k alike far)
 
 -- Without `rtc` the rows x5 and x6 move no answer.
 pub without-rtc-x5-and-x6-move-no-hour :
-    (hours : ℕ) (s t : List ℕ)
-    → frontOf hours s .fault ≡ clear
-    → frontOf hours t .fault ≡ clear
-    → frontOf hours s .body ≡ frontOf hours t .body
-    → marksOf hours s .rtc ≡ false
-    → marksOf hours t .rtc ≡ false
-    → AlikeToX4 (marksOf hours s) (marksOf hours t)
+    (s t : List ℕ)
+    → frontOf s .fault ≡ clear
+    → frontOf t .fault ≡ clear
+    → frontOf s .hours ≡ frontOf t .hours
+    → frontOf s .body ≡ frontOf t .body
+    → marksOf s .rtc ≡ false
+    → marksOf t .rtc ≡ false
+    → AlikeToX4 (marksOf s) (marksOf t)
     → (k : ℕ)
-    → dayReply (frontOf hours s) k ≡ dayReply (frontOf hours t) k
-without-rtc-x5-and-x6-move-no-hour hours s t one other body off off′ alike k =
-    marks-settle hours s t one other body k (without-rtc hours (marksOf hours s) (marksOf hours t) k off off′ alike)
+    → dayReply (frontOf s) k ≡ dayReply (frontOf t) k
+without-rtc-x5-and-x6-move-no-hour s t one other hours body off off′ alike k =
+    marks-settle s t one other hours body k (λ n. without-rtc n (marksOf s) (marksOf t) k off off′ alike)
 
 -- ---- demand 3
 
@@ -126,10 +137,10 @@ pub reach-of-an-hour-exactly-when-unpriced :
     → f .fault ≡ clear
     → (k i : ℕ) (h : Hour)
     → blockOf (piece k (f .body)) ≡ read h
-    → (dayReply f k ≡ refused REACH (i + 1)) ↔ (WholeHour h (Says (pos k)) × FirstUnpriced h (f .isExcluded k) i)
+    → (dayReply f k ≡ refused REACH (i + 1)) ↔ (WholeHour h (Says (pos k) (f .hours)) × FirstUnpriced h (f .isExcluded k) i)
 reach-of-an-hour-exactly-when-unpriced f e k i h x =
     rw (an-hour-of-a-day-is-its-blocks f e k 30 (omega arith))
-    (block-reach-exactly-when-unpriced (piece k (f .body)) h (f .isExcluded k) (Says (pos k)) 30 i x)
+    (block-reach-exactly-when-unpriced (piece k (f .body)) h (f .isExcluded k) (Says (pos k) (f .hours)) 30 i x)
 
 -- So an hour of a day is refused for reach exactly when no check from 1 to 5 refuses it, a kilowatt that some interval must price has no
 -- price, and no derate refusal falls in that interval or before it.
@@ -138,10 +149,10 @@ pub an-hour-is-refused-for-reach-exactly-when-some-kilowatt-is-unpriced :
     → f .fault ≡ clear
     → (k : ℕ) (h : Hour)
     → blockOf (piece k (f .body)) ≡ read h
-    → ((place : ℕ) × (dayReply f k ≡ refused REACH place)) ↔ (WholeHour h (Says (pos k)) × UnpricedBeforeDerate h (f .isExcluded k))
+    → ((place : ℕ) × (dayReply f k ≡ refused REACH place)) ↔ (WholeHour h (Says (pos k) (f .hours)) × UnpricedBeforeDerate h (f .isExcluded k))
 an-hour-is-refused-for-reach-exactly-when-some-kilowatt-is-unpriced f e k h x =
     rw (an-hour-of-a-day-is-its-blocks f e k 30 (omega arith))
-    (block-refused-for-reach-exactly-when-some-kilowatt-is-unpriced (piece k (f .body)) h (f .isExcluded k) (Says (pos k)) 30 x)
+    (block-refused-for-reach-exactly-when-some-kilowatt-is-unpriced (piece k (f .body)) h (f .isExcluded k) (Says (pos k) (f .hours)) 30 x)
 
 -- And for derate exactly when no check from 1 to 5 refuses it, the reduction of some eligible interval exceeds the room for it, and no
 -- reach refusal falls before that interval.
@@ -150,22 +161,22 @@ pub an-hour-is-refused-for-derate-exactly-when-some-reduction-exceeds :
     → f .fault ≡ clear
     → (k : ℕ) (h : Hour)
     → blockOf (piece k (f .body)) ≡ read h
-    → ((place : ℕ) × (dayReply f k ≡ refused DERATE place)) ↔ (WholeHour h (Says (pos k)) × ExceededBeforeReach h (f .isExcluded k))
+    → ((place : ℕ) × (dayReply f k ≡ refused DERATE place)) ↔ (WholeHour h (Says (pos k) (f .hours)) × ExceededBeforeReach h (f .isExcluded k))
 an-hour-is-refused-for-derate-exactly-when-some-reduction-exceeds f e k h x =
     rw (an-hour-of-a-day-is-its-blocks f e k 30 (omega arith))
-    (block-refused-for-derate-exactly-when-some-reduction-exceeds (piece k (f .body)) h (f .isExcluded k) (Says (pos k)) 30 x)
+    (block-refused-for-derate-exactly-when-some-reduction-exceeds (piece k (f .body)) h (f .isExcluded k) (Says (pos k) (f .hours)) 30 x)
 
 -- Two sheets with one header, whose blocks differ in their curve lines only, are two such days.
 pub sheets-with-one-header-are-apart :
-    (hours : ℕ) (head body other : List ℕ)
-    → frontOf hours head .fault ≡ clear
-    → frontOf hours head .body ≡ []
-    → ((k : ℕ) → k < hours → BlocksApart (piece k body) (piece k other))
-    → restAfter hours body ≡ restAfter hours other
-    → DaysApart (frontOf hours (head ++ body)) (frontOf hours (head ++ other))
-sheets-with-one-header-are-apart hours head body other e alone blocks rest =
-    subst (λ f. DaysApart f (frontOf hours (head ++ other))) (sym (front-append hours head e alone body))
-    (subst (DaysApart _) (sym (front-append hours head e alone other))
+    (head body other : List ℕ)
+    → frontOf head .fault ≡ clear
+    → frontOf head .body ≡ []
+    → ((k : ℕ) → k < frontOf head .hours → BlocksApart (piece k body) (piece k other))
+    → restAfter (frontOf head .hours) body ≡ restAfter (frontOf head .hours) other
+    → DaysApart (frontOf (head ++ body)) (frontOf (head ++ other))
+sheets-with-one-header-are-apart head body other e alone blocks rest =
+    subst (λ f. DaysApart f (frontOf (head ++ other))) (sym (front-append head e alone body))
+    (subst (DaysApart _) (sym (front-append head e alone other))
     (record { one-read = refl; other-read = refl; hours = refl; excluded = λ k u. refl; blocks = blocks; surplus = rest }))
 
 -- Only the prices of the kilowatts between D and the limit matter: two days whose blocks differ in their curve lines only, and whose hours
@@ -174,7 +185,7 @@ sheets-with-one-header-are-apart hours head body other e alone blocks rest =
 pub only-needed-prices-of-a-day-matter :
     (f g : Front)
     → DaysApart f g
-    → BothRead f g (λ k h j. PricedAlike h j (f .isExcluded k) (Says (pos k)))
+    → BothRead f g (λ k h j. PricedAlike h j (f .isExcluded k) (Says (pos k) (f .hours)))
     → SettledAlike f g
 only-needed-prices-of-a-day-matter f g d alike = hours-settled f g d (λ k u. blocks-alike _ _ _ _ (d .blocks k u) (alike k u))
 
@@ -188,7 +199,7 @@ pub adding-curve-to-an-hour-changes-nothing :
     → (h j : Hour)
     → blockOf (piece k (f .body)) ≡ read h
     → blockOf (piece k (g .body)) ≡ read j
-    → Lawful j (Says (pos k))
+    → Lawful j (Says (pos k) (f .hours))
     → Extends (h .da) (j .da)
     → Extends (h .rt) (j .rt)
     → (sum cents : ℤ)
@@ -202,7 +213,7 @@ pub adding-curve-to-a-day-changes-nothing :
     (f g : Front)
     → DaysApart f g
     → ((k : ℕ) → k < f .hours → Pays (dayReply f k))
-    → BothRead f g (λ k h j. Lawful j (Says (pos k)) × Extends (h .da) (j .da) × Extends (h .rt) (j .rt))
+    → BothRead f g (λ k h j. Lawful j (Says (pos k) (f .hours)) × Extends (h .da) (j .da) × Extends (h .rt) (j .rt))
     → SettledAlike f g
 adding-curve-to-a-day-changes-nothing f g d pays longer =
     hours-settled f g d (λ k u. blocks-added _ _ _ _ (d .blocks k u) (rw (one-hour f g d k u) at (pays k u)) (longer k u))
@@ -232,10 +243,17 @@ what-follows-withholds-the-total f b t e = ap (λ (l : List ℕ). totalOf (dayRe
 
 -- ---- bounded memory
 
--- A day is settled alike from what is kept of its sheet, of any length: the header and each block up to its first 10,640 bytes and its
--- empty line, and a byte of what follows.
+-- A day is settled alike from what is kept of its sheet, of any length: the header, with 32 digits of a longer run, and each block up to its
+-- first bytes and its empty line, and a byte of what follows; and of no matter how many pieces more than the day has.
 pub a-kept-sheet-is-settled-alike :
-    (hours : ℕ) (s : List ℕ)
-    → hours ≤ 24
-    → SettledAlike (frontOf hours (keptOf (atFirst (suc hours)) s)) (frontOf hours s)
-a-kept-sheet-is-settled-alike hours s h = kept-settled hours s (omega arith)
+    (s : List ℕ) (pieces : ℕ)
+    → frontOf s .hours < pieces
+    → SettledAlike (frontOf (keptOf (atFirst pieces) (squeezed s))) (frontOf s)
+a-kept-sheet-is-settled-alike = kept-settled
+
+-- Where a byte stands behind the last block, those that follow it settle nothing: a program may stop reading there.
+pub behind-a-surplus-byte-nothing-settles :
+    (s t : List ℕ)
+    → isSome (restAfter (suc (frontOf s .hours)) s) ≡ true
+    → SettledAlike (frontOf (s ++ t)) (frontOf s)
+behind-a-surplus-byte-nothing-settles = append-settled

@@ -8,34 +8,43 @@ use lib.IntN.{pos}
 use Rattle.exact.proofs.Apart.{impossible}
 use Rattle.tariff.specs.declared.Hour.{Hour}
 use Rattle.tariff.specs.declared.Expected.the-variants.{Says}
-use Rattle.tariff.specs.Reply.{Verdict, clear, otherwise}
+use Rattle.tariff.specs.Reply.{refused, Verdict, clear, fault, otherwise}
 use Rattle.tariff.specs.Hour.{reply}
-use Rattle.tariff.specs.Total.{totalOf}
-use Rattle.tariff.proofs.Totals.{total-same}
+use Rattle.tariff.specs.Total.{noTotal, totalOf}
+use Rattle.tariff.proofs.Totals.{total-same, total-refused}
 use Rattle.lines.specs.Pieces.{restAfter, isSome, piece}
 use Rattle.blocks.specs.Block.{Block, blockOf, read}
 use Rattle.sheet.specs.Settle.{replyTo}
 use Rattle.sheet.proofs.Closing.{piece-decides}
-use Rattle.ledger.specs.Day.{Front, hourReply, dayReply, surplus}
+use Rattle.ledger.specs.Day.{Front, hourReply, dayReply, surplus, dayTotal}
 use Rattle.ledger.specs.Demand.{SettledAlike}
 use Rattle.ledger.proofs.RoomEnough.{any-room}
 
 module _ (f : Front) where
+  -- a refused front refuses every hour, and withholds the total
+  module _ (number place : ℕ) (e : f .fault ≡ fault number place) where
+    pub refused-hour : (k : ℕ) → dayReply f k ≡ refused number place
+    unfolding dayReply
+    refused-hour k = ap (λ (v : Verdict). otherwise v (hourReply f k)) e
+
+    pub no-total : 0 < f .hours → dayTotal f ≡ noTotal
+    no-total some = total-refused (dayReply f) (f .hours) 0 number place (isSome (surplus f)) some (refused-hour 0)
+
   pub hour-clear : f .fault ≡ clear → (k : ℕ) → dayReply f k ≡ hourReply f k
   unfolding dayReply
   hour-clear e k = ap (λ (v : Verdict). otherwise v (hourReply f k)) e
 
   -- its block's own bytes decide it, and any row of 30 entries or more
-  pub own-block : (k room : ℕ) → 30 ≤ room → hourReply f k ≡ replyTo (blockOf (piece k (f .body))) (f .isExcluded k) (Says (pos k)) room
+  pub own-block : (k room : ℕ) → 30 ≤ room → hourReply f k ≡ replyTo (blockOf (piece k (f .body))) (f .isExcluded k) (Says (pos k) (f .hours)) room
   unfolding hourReply
   own-block k room h =
-      any-room (f .isExcluded k) (Says (pos k)) room h (restAfter k (f .body))
-      ∙ ap (λ (b : Block). replyTo b (f .isExcluded k) (Says (pos k)) room) (sym (piece-decides (restAfter k (f .body))))
+      any-room (f .isExcluded k) (Says (pos k) (f .hours)) room h (restAfter k (f .body))
+      ∙ ap (λ (b : Block). replyTo b (f .isExcluded k) (Says (pos k) (f .hours)) room) (sym (piece-decides (restAfter k (f .body))))
 
   pub read-reply : f .fault ≡ clear → (k : ℕ) (h : Hour) → blockOf (piece k (f .body)) ≡ read h
-      → dayReply f k ≡ reply h (f .isExcluded k) (Says (pos k)) 30
+      → dayReply f k ≡ reply h (f .isExcluded k) (Says (pos k) (f .hours)) 30
   read-reply e k h x =
-      hour-clear e k ∙ own-block k 30 (omega arith) ∙ ap (λ (b : Block). replyTo b (f .isExcluded k) (Says (pos k)) 30) x
+      hour-clear e k ∙ own-block k 30 (omega arith) ∙ ap (λ (b : Block). replyTo b (f .isExcluded k) (Says (pos k) (f .hours)) 30) x
 
 pub nothing-left : (t : List ℕ) → isSome t ≡ false → t ≡ []
 nothing-left [] e = refl
@@ -44,10 +53,20 @@ nothing-left (b ∷ t) e = impossible cc
 -- ---- two days
 
 module _ (f g : Front) where
-  pub hour-same : (k : ℕ) → f .fault ≡ g .fault → f .isExcluded k ≡ g .isExcluded k
+  pub hour-same : (k : ℕ) → f .fault ≡ g .fault → f .hours ≡ g .hours → f .isExcluded k ≡ g .isExcluded k
       → blockOf (restAfter k (f .body)) ≡ blockOf (restAfter k (g .body)) → dayReply f k ≡ dayReply g k
   unfolding dayReply hourReply
-  hour-same k e x b = rw (e, x, b)
+  hour-same k e n x b = rw (e, n, x, b)
+
+  -- refused alike they answer every hour alike, and no total is given
+  pub both-refused : (number place : ℕ) → f .fault ≡ fault number place → g .fault ≡ fault number place → f .hours ≡ g .hours → 0 < g .hours
+      → SettledAlike f g
+  both-refused number place e e′ n some = record {
+    fault = e ∙ sym e′;
+    hours = n;
+    answers = λ k u. refused-hour f number place e k ∙ sym (refused-hour g number place e′ k);
+    total = no-total f number place e (rw n some) ∙ sym (no-total g number place e′ some);
+  }
 
   -- with the same answers they have the same total, where something stands behind the blocks of both or of neither
   pub settled-alike : f .fault ≡ g .fault → f .hours ≡ g .hours → ((k : ℕ) → k < f .hours → dayReply f k ≡ dayReply g k)

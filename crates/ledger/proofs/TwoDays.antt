@@ -1,6 +1,5 @@
 -- Two days whose blocks differ in their curve lines only: an hour by its two blocks, and the days by their hours.
 use mathlib.Core.Path.{_≡_, sym, ap, _∙_}
-use mathlib.Core.Bool.{Bool}
 use mathlib.Core.List.{List}
 use Prim.Native.Nat.{ℕ, _<_}
 use native.Mathlib.Omega.{arith}
@@ -17,7 +16,7 @@ use Rattle.ledger.proofs.HourOfDay.{hour-clear, own-block, settled-alik
 module _ (f g : Front) (d : DaysApart f g) where
   module _ (k : ℕ) (u : k < f .hours) where
     abbrev replyIn : List ℕ → Reply
-    replyIn body = replyTo (blockOf (piece k body)) (f .isExcluded k) (Says (pos k)) 30
+    replyIn body = replyTo (blockOf (piece k body)) (f .isExcluded k) (Says (pos k) (f .hours)) 30
 
     pub one-hour : dayReply f k ≡ replyIn (f .body)
     one-hour = hour-clear f (d .one-read) k ∙ own-block f k 30 (omega arith)
@@ -26,7 +25,7 @@ module _ (f g : Front) (d : DaysApart f g) where
     other-hour =
         hour-clear g (d .other-read) k
         ∙ own-block g k 30 (omega arith)
-        ∙ ap (λ (b : Bool). replyTo (blockOf (piece k (g .body))) b (Says (pos k)) 30) (sym (d .excluded k u))
+        ∙ (λ i. replyTo (blockOf (piece k (g .body))) (sym (d .excluded k u) i) (Says (pos k) (sym (d .hours) i)) 30)
 
   pub hours-settled : ((k : ℕ) (u : k < f .hours) → replyIn k u (f .body) ≡ replyIn k u (g .body)) → SettledAlike f g
   hours-settled same =

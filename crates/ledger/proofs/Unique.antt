@@ -1,6 +1,7 @@
 -- No two different replies satisfy the contract of the day call.
 use mathlib.Core.Path.{_≡_, refl, sym, ap, _∙_}
 use mathlib.Core.List.{List}
+use Prim.Native.Nat.{ℕ}
 use Rattle.exact.proofs.Unique.{OneReply}
 use Rattle.tariff.specs.declared.Found.{Found}
 use Rattle.tariff.specs.Units.{cents}
@@ -24,12 +25,13 @@ total-back Withheld = refl
 total-one : (t u : Total) → toldTotal t ≡ toldTotal u → t ≡ u
 total-one t u e = sym (total-back t) ∙ ap totalTold e ∙ total-back u
 
-abbrev day : Found → List HourAnswer → Total → Day
-day header hours t = record { header = header; hours = hours; total = t }
+abbrev day : Found → (count : ℕ) → List HourAnswer → Total → Day
+day header count hours t = record { header = header; count = count; hours = hours; total = t }
 
 pub one-settle-day : OneReply settle-day.Post
 one-settle-day κ a r s u v p q = λ i.
     day
     (one-finding (r .header) (s .header) _ (p .0) (q .0) i)
-    (answers-one (r .hours) (s .hours) (p .1 .0 ∙ sym (q .1 .0)) i)
-    (total-one (r .total) (s .total) (p .1 .1 ∙ sym (q .1 .1)) i)
+    ((p .1 .0 ∙ sym (q .1 .0)) i)
+    (answers-one (r .hours) (s .hours) (p .1 .1 .0 ∙ sym (q .1 .1 .0)) i)
+    (total-one (r .total) (s .total) (p .1 .1 .1 ∙ sym (q .1 .1 .1)) i)

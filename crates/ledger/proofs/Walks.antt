@@ -6,7 +6,7 @@ use Prim.Native.Nat.{ℕ, _+_, _*_, _-_, _<_, _≤_}
 use native.Mathlib.Numerals.{add-one}
 use native.Mathlib.Omega.{arith}
 use lib.IntN.{pos}
-use lib.ListN.{length, take, drop, set, replicate, length-set, length-replicate}
+use lib.ListN.{length, take, drop, set, replicate}
 use mir.Syntax.{w64}
 use mir.Val.{toZ}
 use mir.ValLaws.{toZ-pos}
@@ -16,10 +16,13 @@ use Rattle.tariff.specs.declared.Answer.{Answer}
 use Rattle.tariff.specs.declared.Expected.{Expected}
 use Rattle.tariff.specs.declared.Expected.the-variants.{Says}
 use Rattle.tariff.specs.Units.{cents, centsOf}
+use Rattle.tariff.specs.Sheet.{LONGEST-DAY}
 use Rattle.tariff.specs.Reply.{Reply, Verdict, clear, fault, otherwise, told}
 use Rattle.tariff.proofs.Demands.{rounded-once}
 use Rattle.lines.specs.Cut.{behind}
 use Rattle.lines.specs.Pieces.{restAfter}
+use Rattle.lines.specs.Line.{filled}
+use Rattle.lines.proofs.Fill.{fill-next}
 use Rattle.lines.proofs.Pieces.{Behind, lent-to-the-end, some-left, none-left}
 use Rattle.blocks.specs.Block.{Block, broken, read, blockOf}
 use Rattle.sheet.specs.Settle.{replyTo}
@@ -28,18 +31,18 @@ use Rattle.tariff.specs.declared.Total.{Total}
 use Rattle.tariff.specs.declared.Total.the-variants.{Of, Withheld}
 use Rattle.tariff.specs.Total.{sumOf, totalOf, toldTotal, toldAll}
 use Rattle.ledger.specs.Day.{Front, hourReply, dayReply}
-use Rattle.ledger.specs.Walk.{Rounded, UpToCents, Added, SettledTo}
-use Rattle.tariff.proofs.HourAnswers.{hourAnswer, told-next}
+use Rattle.ledger.specs.Walk.{Rounded, UpToCents, Added, absent, heldReplies, SettledTo}
+use Rattle.tariff.proofs.HourAnswers.{hourAnswer, told-set, told-same}
 use Rattle.tariff.proofs.Totals.{sum-next}
 use Rattle.ledger.proofs.Totals.{nothing-most}
 
 -- ---- the reply to a block
 
 -- a block that is lent from its place to the text's end
-pub lent-reply : (s : List ℕ) (at k : ℕ) (isExcluded : Bool) (a : Answer) → k < 24
-    → told a ≡ replyTo (blockOf (take (length s - at) (drop at s))) isExcluded (Says (toZ w64 k)) 30
-    → told a ≡ replyTo (blockOf (drop at s)) isExcluded (Says (pos k)) 30
-lent-reply s at k isExcluded a h e = e ∙ rw (lent-to-the-end s at, toZ-pos w64 k (omega arith))
+pub lent-reply : (s : List ℕ) (at k : ℕ) (isExcluded : Bool) (hours : ℕ) (a : Answer) → k < LONGEST-DAY
+    → told a ≡ replyTo (blockOf (take (length s - at) (drop at s))) isExcluded (Says (toZ w64 k) hours) 30
+    → told a ≡ replyTo (blockOf (drop at s)) isExcluded (Says (pos k) hours) 30
+lent-reply s at k isExcluded hours a h e = e ∙ rw (lent-to-the-end s at, toZ-pos w64 k (omega arith))
 
 reply-rounded : (b : Block) (isExcluded : Bool) (expected : Expected) (room : ℕ) → Rounded (replyTo b isExcluded expected room)
 reply-rounded (broken line) isExcluded expected room = record { cents = λ sum cents e. impossible cc }
@@ -48,7 +51,7 @@ reply-rounded (read h) isExcluded expected room =
 
 pub hour-rounded : (f : Front) (k : ℕ) (a : Answer) → told a ≡ dayReply f k → Rounded (told a)
 unfolding dayReply hourReply
-hour-rounded f k a e = rw e (go (f .fault) (reply-rounded (blockOf (restAfter k (f .body))) (f .isExcluded k) (Says (pos k)) 30))
+hour-rounded f k a e = rw e (go (f .fault) (reply-rounded (blockOf (restAfter k (f .body))) (f .isExcluded k) (Says (pos k) (f .hours)) 30))
   where
     go : {r : Reply} (v : Verdict) → Rounded r → Rounded (otherwise v r)
     go clear o = o
@@ -58,33 +61,33 @@ hour-rounded f k a e = rw e (go (f .fault) (reply-rounded (blockOf (restAfter k 
 
 module _ (s : List ℕ) (f : Front) where
   pub record Gone (answers : List HourAnswer) (t : Total) (i k : ℕ) : Type 0 where
-    pub long : length answers ≡ 24
     pub inside : i ≤ length s
     pub rest : drop i s ≡ restAfter k (f .body)
-    pub answers-are : toldAll (take k answers) ≡ upTo (dayReply f) k
+    pub answers-are : toldAll answers ≡ filled k LONGEST-DAY (dayReply f) absent
     pub sum : toldTotal t ≡ sumOf (dayReply f) k
     pub most : UpToCents (2600000000000 * k) (toldTotal t)
 
-  pub gone-none : (a : HourAnswer) (at : ℕ) → at ≤ length s → drop at s ≡ f .body → Gone (replicate 24 a) (Of (cents (pos 0))) at 0
-  unfolding restAfter upTo sumOf toldAll
-  gone-none a at h e = record { long = length-replicate 24 a; inside = h; rest = e; answers-are = refl; sum = refl; most = nothing-most }
+  pub gone-none : (a : Answer) (at : ℕ) → told a ≡ absent → at ≤ length s → drop at s ≡ f .body
+      → Gone (replicate LONGEST-DAY (hourAnswer a)) (Of (cents (pos 0))) at 0
+  unfolding restAfter upTo sumOf
+  gone-none a at none h e =
+      record { inside = h; rest = e; answers-are = told-same a LONGEST-DAY ∙ ap (replicate LONGEST-DAY) none; sum = refl; most = nothing-most }
 
   module _ (answers : List HourAnswer) (t : Total) (i k : ℕ) (g : Gone answers t i k) where
     -- the block that begins at i is block k
     pub block-reply : (a : Answer) (isExcluded : Bool) → f .fault ≡ clear → isExcluded ≡ f .isExcluded k
-        → told a ≡ replyTo (blockOf (drop i s)) isExcluded (Says (pos k)) 30 → told a ≡ dayReply f k
+        → told a ≡ replyTo (blockOf (drop i s)) isExcluded (Says (pos k) (f .hours)) 30 → told a ≡ dayReply f k
     unfolding dayReply hourReply
     block-reply a isExcluded c e q = q ∙ rw (g .rest, e, c)
 
-    pub gone-more : (a : Answer) (u : Total) (j : ℕ) → k < 24 → told a ≡ dayReply f k → Added (toldTotal t) (told a) (toldTotal u) → Behind s i j
+    pub gone-more : (a : Answer) (u : Total) (j : ℕ) → k < LONGEST-DAY → told a ≡ dayReply f k → Added (toldTotal t) (told a) (toldTotal u) → Behind s i j
         → Gone (set answers k (hourAnswer a)) u j (k + 1)
     unfolding restAfter
     gone-more a u j h q add b =
         record {
-          long = length-set answers k (hourAnswer a) ∙ g .long;
           inside = b .1;
           rest = rw add-one (b .0 ∙ ap behind (g .rest));
-          answers-are = told-next (dayReply f) answers k a (let l = g .long in omega arith) (g .answers-are) q;
+          answers-are = told-set answers k a ∙ fill-next (dayReply f) absent k LONGEST-DAY h (g .answers-are) q;
           sum = add .told ∙ rw (g .sum, q) (sym (sum-next (dayReply f) k));
           most = rw (most-next k) (add .most (2600000000000 * k) (g .most));
         }
@@ -93,11 +96,14 @@ module _ (s : List ℕ) (f : Front) where
         most-next k = omega arith
 
   -- all are gone
-  module _ (answers : List HourAnswer) (t : Total) (i : ℕ) (g : Gone answers t i (f .hours)) where
+  module _ (answers : List HourAnswer) (t : Total) (i : ℕ) (g : Gone answers t i (f .hours)) (c : f .fault ≡ clear) where
+    held : toldAll answers ≡ heldReplies f
+    held = g .answers-are ∙ ap (λ (v : Verdict). filled (f .hours) LONGEST-DAY (dayReply f) (otherwise v absent)) (sym c)
+
     pub more-follows : i < length s → SettledTo f (record { hours = answers; total = Withheld })
     unfolding totalOf
-    more-follows h = record { long = g .long; answers = g .answers-are; sum = rw (← g .rest, some-left s i h) }
+    more-follows h = record { answers = held; sum = rw (← g .rest, some-left s i h) }
 
     pub none-follows : length s ≤ i → SettledTo f (record { hours = answers; total = t })
     unfolding totalOf
-    none-follows h = record { long = g .long; answers = g .answers-are; sum = g .sum ∙ rw (← g .rest, none-left s i h) }
+    none-follows h = record { answers = held; sum = g .sum ∙ rw (← g .rest, none-left s i h) }

@@ -12,7 +12,7 @@ use Rattle.tariff.specs.Eligible.{excluded}
 use Rattle.lines.specs.Pieces.{restAfter, isSome}
 use Rattle.blocks.specs.Block.{blockOf}
 use Rattle.sheet.specs.Settle.{replyTo}
-use Rattle.header.specs.Header.{headerFault, marksUnder, nextUnder}
+use Rattle.header.specs.Header.{hoursOf, headerFault, marksUnder, nextUnder}
 
 -- ---- the front: a fault or none, how many hours the day has, which of them are excluded, and the text of the blocks
 
@@ -23,17 +23,17 @@ pub record Front : Type 0 where
   pub body : List ℕ
 
 -- a sheet's front is its header
-abbrev pub frontOf : (hours : ℕ) → List ℕ → Front
-frontOf hours s =
-    let v = headerFault hours s in
-    record { fault = v; hours = hours; isExcluded = excluded hours (marksUnder v hours s); body = drop (nextUnder v hours s) s }
+abbrev pub frontOf : List ℕ → Front
+frontOf s =
+    let v = headerFault s in
+    record { fault = v; hours = hoursOf s; isExcluded = excluded (hoursOf s) (marksUnder v s); body = drop (nextUnder v s) s }
 
 -- ---- the answers
 
 -- the blocks are cut at their empty lines: a block is read up to its own, and an hour without a block is an empty block. Block k has to
 -- say hour k; no block has more intervals than the lent row has room for
 unfoldable pub hourReply : Front → ℕ → Reply
-hourReply f k = replyTo (blockOf (restAfter k (f .body))) (f .isExcluded k) (Says (pos k)) 30
+hourReply f k = replyTo (blockOf (restAfter k (f .body))) (f .isExcluded k) (Says (pos k) (f .hours)) 30
 
 -- a refused front refuses every hour, with its own number and place
 unfoldable pub dayReply : Front → ℕ → Reply

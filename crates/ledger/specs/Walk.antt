@@ -2,28 +2,33 @@
 -- excluded hours, and their total. And what a refused front gives instead.
 use mathlib.Core.Path.{_≡_}
 use mathlib.Core.List.{List}
-use Prim.Native.Nat.{ℕ, _+_, _≤_}
+use Prim.Native.Nat.{ℕ, _+_, _<_, _≤_}
 use lib.IntN.{ℤ}
-use lib.ListN.{length, take, drop, replicate}
+use lib.ListN.{length, drop, replicate}
 use Rattle.exact.specs.Whole.{Within}
 use Rattle.tariff.specs.declared.Answer.the-variants.{Refused}
 use Rattle.tariff.specs.declared.Check.{Check}
 use Rattle.tariff.specs.declared.Found.the-variants.{Fault}
 use Rattle.tariff.specs.declared.Total.the-variants.{Withheld}
 use Rattle.tariff.specs.Units.{centsOf}
-use Rattle.tariff.specs.Reply.{Reply, paid, clear, shown}
+use Rattle.tariff.specs.Sheet.{LONGEST-DAY}
+use Rattle.tariff.specs.Reply.{Reply, paid, refused, FORM, clear, otherwise, shown}
 use Rattle.tariff.specs.Eligible.{marked}
 use Rattle.tariff.specs.Total.{Sum, total, _plus_, toldTotal, toldAll}
 use Rattle.marks.specs.Word.{word}
+use Rattle.lines.specs.Line.{filled}
 use Rattle.ledger.specs.declared.Day.{Day}
 use Rattle.ledger.specs.declared.front.Front as code
 use Rattle.ledger.specs.declared.hours.Settled.{Settled}
-use Rattle.ledger.specs.Day.{Front, dayReplies, dayTotal}
+use Rattle.ledger.specs.Day.{Front, dayReply, dayTotal}
 
--- ---- the front of a sheet: its fault, a bit for each excluded hour, and the place of the first block
+-- ---- the front of a sheet: its fault, how many hours it has, a bit for each that is excluded, and the place of the first block
 
 pub record FrontRead (s : List ℕ) (f : Front) (r : code.Front) : Type 0 where
   pub fault : shown (r .found) ≡ f .fault
+  pub hours : r .hours ≡ f .hours
+  pub some : 0 < f .hours
+  pub few : f .hours ≤ LONGEST-DAY
   pub excluded : r .excluded ≡ word (f .hours) (f .isExcluded)
   pub inside : r .next ≤ length s
   pub body : drop (r .next) s ≡ f .body
@@ -47,15 +52,21 @@ pub record Added (x : Sum) (answer : Reply) (after : Sum) : Type 0 where
   pub told : after ≡ (x plus answer)
   pub most : (N : ℕ) → UpToCents N x → UpToCents (N + 2600000000000) after
 
--- ---- the blocks
+-- ---- the blocks: an answer for each hour, and in the room that the longest day has behind them that of an absent block, or the front's
+-- refusal
+
+abbrev pub absent : Reply
+absent = refused FORM 1
+
+abbrev pub heldReplies : Front → List Reply
+heldReplies f = filled (f .hours) LONGEST-DAY (dayReply f) (otherwise (f .fault) absent)
 
 pub record SettledTo (f : Front) (r : Settled) : Type 0 where
-  pub long : length (r .hours) ≡ 24
-  pub answers : toldAll (take (f .hours) (r .hours)) ≡ dayReplies f
+  pub answers : toldAll (r .hours) ≡ heldReplies f
   pub sum : toldTotal (r .total) ≡ dayTotal f
 
 -- ---- a refused front refuses every hour
 
-abbrev pub refusedDay : Check → Day
-refusedDay check =
-    record { header = Fault check; hours = replicate 24 (record { answer = Refused check }); total = Withheld }
+abbrev pub refusedDay : Check → (count : ℕ) → Day
+refusedDay check count =
+    record { header = Fault check; count = count; hours = replicate LONGEST-DAY (record { answer = Refused check }); total = Withheld }

@@ -3,23 +3,26 @@ ghost use Rattle.ledger.specs.Day.{frontOf};
 ghost use Rattle.ledger.specs.Walk.{FrontRead};
 use tariff::Found;
 
-// A fault or none, a bit for each excluded hour, and the place of the first block.
+// A fault or none, how many hours the day has, a bit for each that is excluded, and the place of the first block.
 pub struct Front {
     pub found: Found,
+    pub hours: usize,
     pub excluded: u32,
     pub next: usize,
 }
 
 // Reads the front of a sheet, which is its header.
 pub fn read_front(sheet: &[u8]) -> Front
-    ensures { λ r. ⌜ FrontRead (now (sheet .entry)) (frontOf 24 (now (sheet .entry))) r ⌝ }
+    ensures { λ r. ⌜ FrontRead (now (sheet .entry)) (frontOf (now (sheet .entry))) r ⌝ }
 {
     let header = header::read_header(sheet);
     let found = header.found;
     let marks = header.marks;
+    let hours = header.hours;
     Front {
         found,
-        excluded: marks::excluded_hours(marks),
+        hours,
+        excluded: marks::excluded_hours(marks, hours as u32),
         next: header.next,
     }
 }

@@ -4,6 +4,7 @@ ghost use Prim.Native.Nat.{_<_, _≤_};
 ghost use lib.IntN.{pos};
 ghost use lib.ListN.{length, drop};
 ghost use Rattle.tariff.specs.Reply.{told};
+ghost use Rattle.tariff.specs.Sheet.{LONGEST-DAY};
 ghost use Rattle.tariff.specs.declared.Expected.the-variants.{Says};
 ghost use Rattle.blocks.specs.Block.{blockOf};
 ghost use Rattle.sheet.specs.Settle.{replyTo};
@@ -18,24 +19,24 @@ use tariff::Total;
 
 // The answers of a day's blocks, and their total.
 pub struct Settled {
-    pub hours: [HourAnswer; 24],
+    pub hours: [HourAnswer; tariff::LONGEST_DAY],
     pub total: Total,
 }
 
-// The block that begins at a place and has to say hour k.
-pub fn settle_hour(s: &[u8], at: usize, excluded: bool, k: usize) -> Answer
-    requires { ⌜ (at ≤ length (now s)) × (k < 24) ⌝ }
-    ensures { λ r. ⌜ told r ≡ replyTo (blockOf (drop at (now (s .entry)))) excluded (Says (pos k)) 30 ⌝ }
+// The block that begins at a place and has to say hour k of a day of so many.
+pub fn settle_hour(s: &[u8], at: usize, excluded: bool, k: usize, hours: usize) -> Answer
+    requires { ⌜ (at ≤ length (now s)) × (k < LONGEST-DAY) ⌝ }
+    ensures { λ r. ⌜ told r ≡ replyTo (blockOf (drop at (now (s .entry)))) excluded (Says (pos k) hours) 30 ⌝ }
 {
     let mut row = [0i64; 30];
     let block = &s[at..];
     let hour = k as i64;
-    sheet::settle_block(block, excluded, Expected::Says(hour), &mut row)
+    sheet::settle_block(block, excluded, Expected::Says(hour, hours), &mut row)
 }
 
-// A total with one answer more: 24 hours of 2,600,000,000,000 cents and no more are summed.
+// A total with one answer more: 25 hours of 2,600,000,000,000 cents and no more are summed.
 pub fn add(total: Total, answer: Answer) -> Total
-    requires { ⌜ UpToCents 62400000000000 (toldTotal total) × Rounded (told answer) ⌝ }
+    requires { ⌜ UpToCents 65000000000000 (toldTotal total) × Rounded (told answer) ⌝ }
     ensures { λ r. ⌜ Added (toldTotal total) (told answer) (toldTotal r) ⌝ }
 {
     match total {
@@ -49,18 +50,18 @@ pub fn add(total: Total, answer: Answer) -> Total
 
 // The answers of the first `hours` blocks from a place on, and their total, withheld where bytes follow.
 pub fn settle_hours(s: &[u8], at: usize, excluded: u32, hours: usize) -> Settled
-    requires { ⌜ (at ≤ length (now s)) × (hours ≤ 24) ⌝ }
+    requires { ⌜ (at ≤ length (now s)) × (hours ≤ LONGEST-DAY) ⌝ }
     ensures { λ r. ⌜ SettledTo (wordFront excluded (drop at (now (s .entry))) hours) r ⌝ }
 {
     let mut answers = [HourAnswer {
         answer: Answer::Refused(Check::Form(1)),
-    }; 24];
+    }; tariff::LONGEST_DAY];
     let mut total = Total::Of(Cents(0));
     let mut i = at;
     let mut k: usize = 0;
     while k < hours {
         let hour = k as u32;
-        let answer = settle_hour(s, i, marks::is_marked(excluded, hour), k);
+        let answer = settle_hour(s, i, marks::is_marked(excluded, hour), k, hours);
         answers[k] = HourAnswer { answer };
         total = add(total, answer);
         i = lines::piece_after(s, i);

@@ -1,9 +1,9 @@
 // The day call: the bytes of a day's sheet in, the answer of each hour and the day's total out.
 ghost use mathlib.Core.Path.{_≡_};
 ghost use Rattle.tariff.specs.Reply.{shown};
-ghost use Rattle.ledger.specs.Day.{frontOf, dayReplies, dayTotal};
+ghost use Rattle.ledger.specs.Day.{frontOf, dayTotal};
 ghost use Rattle.tariff.specs.Total.{toldTotal, toldAll};
-ghost use Rattle.ledger.specs.Walk.{refusedDay};
+ghost use Rattle.ledger.specs.Walk.{heldReplies, refusedDay};
 use tariff::Answer;
 use tariff::Check;
 use tariff::Found;
@@ -13,42 +13,48 @@ use tariff::Total;
 mod front;
 mod hours;
 
-// A settled day: the header's fault or none, the answer of each hour, and the total.
+// A settled day: the header's fault or none, how many hours it has, the answer of each, and the total. Behind the last hour stands the
+// answer of an absent block, or the refusal of a refused header.
 pub struct Day {
     pub header: Found,
-    pub hours: [HourAnswer; 24],
+    pub count: usize,
+    pub hours: [HourAnswer; tariff::LONGEST_DAY],
     pub total: Total,
 }
 
 // A refused header refuses every hour.
-fn refused_day(check: Check) -> Day
-    ensures { λ r. ⌜ r ≡ refusedDay check ⌝ }
+fn refused_day(check: Check, count: usize) -> Day
+    ensures { λ r. ⌜ r ≡ refusedDay check count ⌝ }
 {
     Day {
         header: Found::Fault(check),
+        count,
         hours: [HourAnswer {
             answer: Answer::Refused(check),
-        }; 24],
+        }; tariff::LONGEST_DAY],
         total: Total::Withheld,
     }
 }
 
 // Settles a day's sheet. Any bytes are judged.
 pub fn settle_day(sheet: &[u8]) -> Day
-    ensures header { λ r. ⌜ shown (r .header) ≡ frontOf 24 (now (sheet .entry)) .fault ⌝ }
-    ensures hours { λ r. ⌜ toldAll (r .hours) ≡ dayReplies (frontOf 24 (now (sheet .entry))) ⌝ }
-    ensures total { λ r. ⌜ toldTotal (r .total) ≡ dayTotal (frontOf 24 (now (sheet .entry))) ⌝ }
+    ensures header { λ r. ⌜ shown (r .header) ≡ frontOf (now (sheet .entry)) .fault ⌝ }
+    ensures count { λ r. ⌜ r .count ≡ frontOf (now (sheet .entry)) .hours ⌝ }
+    ensures hours { λ r. ⌜ toldAll (r .hours) ≡ heldReplies (frontOf (now (sheet .entry))) ⌝ }
+    ensures total { λ r. ⌜ toldTotal (r .total) ≡ dayTotal (frontOf (now (sheet .entry))) ⌝ }
 {
     let front = front::read_front(sheet);
     let found = front.found;
+    let count = front.hours;
     if let Found::Fault(check) = found {
-        return refused_day(check);
+        return refused_day(check, count);
     }
-    let settled = hours::settle_hours(sheet, front.next, front.excluded, 24);
+    let settled = hours::settle_hours(sheet, front.next, front.excluded, count);
     let hours = settled.hours;
     let total = settled.total;
     Day {
         header: found,
+        count,
         hours,
         total,
     }

@@ -121,7 +121,7 @@ module _ {s t : List ℕ} {f g : ℕ → ℕ} {In : ℕ → ℕ → Type 0} (o :
   unfolding digitAt
   digit-placed w i u h = ap digitOf (sym (o .same w i u h))
 
-  digit-further : (v w i : ℕ) → v < w → In w i → (digitAt s (f i) ≡ 10 → ⊥) → In v (i + 1)
+  pub digit-further : (v w i : ℕ) → v < w → In w i → (digitAt s (f i) ≡ 10 → ⊥) → In v (i + 1)
   unfolding digitAt
   digit-further v w i u h e = o .on v w i u h (digit-open (byteAt s (f i)) e)
 

@@ -9,6 +9,10 @@ pub mod Shared
 pub mod Agree
 pub mod SeriesShared
 pub mod Cut
+pub mod Behind
+pub mod First
+pub mod Appended
+pub mod Squeezed
 pub mod Passed
 pub mod Pieces
 pub mod BlockEnds

@@ -5,3 +5,4 @@ pub mod Told
 pub mod Print
 pub mod Cut
 pub mod Pieces
+pub mod Squeezed

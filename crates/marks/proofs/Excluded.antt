@@ -1,13 +1,15 @@
--- The words of the rule's parts joined and masked are the word of the hours that the rule excludes.
+-- The words of the rule's parts joined and masked are the word of the hours that the rule excludes, and that word for callers.
 use mathlib.Core.Path.{_≡_, refl, _∙_, ap}
 use mathlib.Core.Bool.{Bool, true, false, _&&_, _||_}
-use Prim.Native.Nat.{ℕ, _-_, _%_, _^_, _<_}
+use Prim.Native.Nat.{ℕ, _-_, _%_, _^_, _<_, _≤_, min}
 use native.Mathlib.Nat.{zero-div}
+use native.Mathlib.Omega.{arith}
 use lib.Dec.{eqb}
 use lib.ListN.{getD}
 use lib.Bits.{bitAnd, bitOr}
 use Rattle.exact.specs.Choice.{if_then_else_}
 use Rattle.tariff.specs.declared.Marks.{Marks}
+use Rattle.tariff.specs.Sheet.{LONGEST-DAY}
 use Rattle.tariff.specs.Eligible.{marked, markedNear, excluded}
 use Rattle.marks.specs.Word.{word}
 use Rattle.marks.proofs.Marked.{or-marks}
@@ -47,3 +49,8 @@ module _ (n : ℕ) (m : Marks) where
         ap (bitAnd (bitOr joinedAlways w)) mask
         ∙ masked (bitOr joinedAlways w) n (excluded n m)
         (λ h u. or-marks _ w h (always-at h u) (ap (λ (x : ℕ). marked x h) f ∙ near-at s5 s6 h u e5 e6 (m .rtc)))
+
+-- the word of a day whose count needs no bound
+pub word-of-day : (hours : ℕ) (m : Marks) → hours ≤ LONGEST-DAY
+    → word (min hours LONGEST-DAY) (excluded (min hours LONGEST-DAY) m) ≡ word hours (excluded hours m)
+word-of-day hours m u = let same : min hours LONGEST-DAY ≡ hours = omega arith in ap (λ (n : ℕ). word n (excluded n m)) same

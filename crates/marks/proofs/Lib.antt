@@ -1,4 +1,5 @@
--- What is proved of the rule is in `Far`; `Rows` tells callers what a word marks. The others are laws that the functions' proofs cite.
+-- What is proved of the rule is in `Far`; `Rows` tells callers what a word marks, and `Excluded` which word a day has. The others are
+-- laws that the functions' proofs cite.
 pub mod Marked
 pub mod Rows
 pub mod Some

@@ -1,16 +1,20 @@
 // Which hours of a day are excluded, as a word with a bit for each hour, hour 0 the lowest.
 ghost use mathlib.Core.Path.{_≡_};
+ghost use Prim.Native.Nat.{min};
+ghost use Rattle.tariff.specs.Sheet.{LONGEST-DAY};
 ghost use Rattle.tariff.specs.Eligible.{marked, excluded};
 ghost use Rattle.marks.specs.Word.{word};
 use tariff::Marks;
 
 mod words;
 
-// The hours of a day that are excluded: bit h is document 01's sentence about hour h.
-pub fn excluded_hours(m: Marks) -> u32
-    ensures { λ r. ⌜ r ≡ word 24 (excluded 24 m) ⌝ }
+// The hours of a day that are excluded: bit h is document 01's sentence about hour h. No day has more hours than the longest, so a
+// greater count is taken as that.
+pub fn excluded_hours(m: Marks, hours: u32) -> u32
+    ensures { λ r. ⌜ r ≡ word (min hours LONGEST-DAY) (excluded (min hours LONGEST-DAY) m) ⌝ }
 {
-    words::excluded_in(m, 24)
+    let hours = words::at_most_the_longest(hours);
+    words::excluded_in(m, hours)
 }
 
 // Whether a word marks an hour; no hour past the word is marked.

@@ -1,12 +1,24 @@
-// Rows of marks as words, over the count of a day's hours: a day on which the clocks change has another count.
+// Rows of marks as words, over the count of a day's hours: a day on which the clock changes has another count.
 ghost use mathlib.Core.Path.{_≡_};
-ghost use Prim.Native.Nat.{_-_, _^_, _<_, _≤_};
+ghost use Prim.Native.Nat.{_-_, _^_, _<_, _≤_, min};
 ghost use lib.Dec.{eqb};
 ghost use Rattle.exact.specs.Choice.{if_then_else_};
 ghost use lib.ListN.{getD};
+ghost use Rattle.tariff.specs.Sheet.{LONGEST-DAY};
 ghost use Rattle.tariff.specs.Eligible.{markedNear, excluded};
 ghost use Rattle.marks.specs.Word.{word};
+use tariff::LONGEST_DAY;
 use tariff::Marks;
+
+pub fn at_most_the_longest(hours: u32) -> u32
+    ensures { λ r. ⌜ r ≡ min hours LONGEST-DAY ⌝ }
+{
+    if hours < LONGEST_DAY as u32 {
+        hours
+    } else {
+        LONGEST_DAY as u32
+    }
+}
 
 // The mask of a day: each of its hours is marked.
 pub fn whole(hours: u32) -> u32
@@ -27,9 +39,9 @@ pub fn spread(row: u32, hours: u32) -> u32
     (own | (own << 1) | (own << 2) | (own >> 1) | (own >> 2)) & day
 }
 
-// The hours without a category; `cat` has a digit for each of 24.
-pub fn no_category(cat: [u8; 24], hours: u32) -> u32
-    requires { ⌜ hours ≤ 24 ⌝ }
+// The hours without a category; `cat` has a digit for each hour of the longest day.
+pub fn no_category(cat: [u8; LONGEST_DAY], hours: u32) -> u32
+    requires { ⌜ hours ≤ LONGEST-DAY ⌝ }
     ensures { λ r. ⌜ r ≡ word hours (λ h. eqb (getD cat h 0) 0) ⌝ }
 {
     let mut row: u32 = 0;
@@ -52,7 +64,7 @@ pub fn with_rtc(rtc: bool, row: u32) -> u32
 
 // The excluded hours. x5 and x6 are spread as x4 is.
 pub fn excluded_in(m: Marks, hours: u32) -> u32
-    requires { ⌜ hours ≤ 24 ⌝ }
+    requires { ⌜ hours ≤ LONGEST-DAY ⌝ }
     ensures { λ r. ⌜ r ≡ word hours (excluded hours m) ⌝ }
 {
     let cat = m.cat;

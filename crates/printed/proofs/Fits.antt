@@ -20,11 +20,13 @@ use Rattle.text.specs.Decimal.{natural}
 use Rattle.blocks.specs.Block.{Block, broken, read, blockOf}
 use Rattle.sheet.specs.Settle.{replyTo, hourSaid}
 use Rattle.tariff.specs.Total.{Sum, total, noTotal}
+use Rattle.tariff.specs.Sheet.{LONGEST-DAY}
 use Rattle.ledger.specs.Day.{Front, frontOf, dayReply, dayReplies, dayTotal}
+use Rattle.ledger.proofs.DayDemands.{no-day-is-longer}
 use Rattle.imports.specs.Import.{importReply}
 use Rattle.page.specs.Numerals.{count, counted, signed}
 use Rattle.answers.specs.Answers.{refusedLine, payLine, intervalLine, numbered, answerText, hourLine, totalLine, dayLines, refusedIn, importLine}
-use Rattle.printed.specs.Printed.{LONGEST, contributionsOf, hourText, dayText, importText}
+use Rattle.printed.specs.Printed.{LONGEST, contributionsOf, hourText, dayPage, dayText, importText}
 
 natural-short : (left n : ℕ) → length (natural left n) ≤ left
 unfolding natural
@@ -109,12 +111,11 @@ hour-fits s = go (blockOf s)
     go (broken line) = let r = refused-short 1 line in omega arith
     go (read h) = settled h (reply h false Any 30) refl
 
--- a day of up to 25 hours
-pub day-fits : (hours : ℕ) (s : List ℕ) → hours ≤ 25 → length (dayText hours s) ≤ LONGEST
-unfolding dayText
-day-fits hours s h = go (frontOf hours s) (frontOf hours s .fault) h
+pub day-fits : (s : List ℕ) → length (dayText s) ≤ LONGEST
+unfolding dayPage
+day-fits s = go (frontOf s) (frontOf s .fault) (no-day-is-longer s)
   where
-    go : (f : Front) (v : Verdict) → f .hours ≤ 25 → length (dayLines v (dayReplies f) (dayTotal f)) ≤ LONGEST
+    go : (f : Front) (v : Verdict) → f .hours ≤ LONGEST-DAY → length (dayLines v (dayReplies f) (dayTotal f)) ≤ LONGEST
     go f clear h =
         let a = length-append (numbered hourLine 0 (dayReplies f)) (totalLine (dayTotal f)) in
         let n = up-length (dayReply f) (f .hours) in
@@ -123,9 +124,9 @@ day-fits hours s h = go (frontOf hours s) (frontOf hours s .fault) h
         omega arith
     go f (fault number place) h = let r = refused-short number place in omega arith
 
-pub import-fits : (hours : ℕ) (s : List ℕ) → length (importText hours s) ≤ LONGEST
+pub import-fits : (s : List ℕ) → length (importText s) ≤ LONGEST
 unfolding importText
-import-fits hours s = go (importReply hours s)
+import-fits s = go (importReply s)
   where
     refused-in : (hour : List ℕ) (number place : ℕ) → length hour ≤ 26 → length (refusedIn hour number place) ≤ LONGEST
     refused-in hour number place h =

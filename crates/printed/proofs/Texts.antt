@@ -6,7 +6,7 @@ use Prim.Native.Nat.{ℕ, min, _≤_}
 use native.Mathlib.Omega.{arith}
 use lib.IntN.{ℤ}
 use lib.ListN.{length, take, drop}
-use lib.Seq.{take-append-seam}
+use lib.Seq.{take-append-seam, take-at}
 use Rattle.exact.specs.Whole.{upTo}
 use Rattle.exact.proofs.Sums.{up-length}
 use Rattle.io.specs.Counts.{Counts}
@@ -19,10 +19,11 @@ use Rattle.tariff.specs.Outcome.{rowFor, rowBy}
 use Rattle.blocks.specs.Block.{Block, broken, read, blockOf}
 use Rattle.sheet.specs.Settle.{replyTo, rowTo, hourSaid, countSaid}
 use Rattle.tariff.specs.Total.{Sum}
-use Rattle.ledger.specs.Day.{frontOf, dayReplies, dayTotal}
+use Rattle.ledger.specs.Day.{Front, dayReply, dayReplies, dayTotal}
+use Rattle.ledger.specs.Walk.{heldReplies}
 use Rattle.page.specs.Page.{written, Put}
 use Rattle.answers.specs.Answers.{answerText, dayLines}
-use Rattle.printed.specs.Printed.{contributionsOf, hourText, dayText}
+use Rattle.printed.specs.Printed.{contributionsOf, hourText, dayPage}
 use Rattle.page.proofs.Pages.{put-length}
 
 pub put-first : {page after : List ℕ} {next : ℕ} {text : List ℕ} → Put page 0 text after next
@@ -59,8 +60,12 @@ hour-text s row long e f g h =
 
 -- ---- `day`
 
-pub day-text : (hours : ℕ) (s : List ℕ) {v : Verdict} {replies : List Reply} {sum : Sum}
-    → v ≡ frontOf hours s .fault → replies ≡ dayReplies (frontOf hours s) → sum ≡ dayTotal (frontOf hours s)
-    → dayLines v replies sum ≡ dayText hours s
-unfolding dayText
-day-text hours s e f g = rw (e, f, g)
+module _ (f : Front) where
+  pub day-page : {v : Verdict} {replies : List Reply} {sum : Sum} → v ≡ f .fault → replies ≡ dayReplies f → sum ≡ dayTotal f
+      → dayLines v replies sum ≡ dayPage f
+  unfolding dayPage
+  day-page e h g = rw (e, h, g)
+
+  -- of the answers that are held, those of the day's hours
+  pub hours-held : {count : ℕ} {held : List Reply} → count ≡ f .hours → held ≡ heldReplies f → take count held ≡ dayReplies f
+  hours-held e h = rw (e, h) (take-at (dayReplies f) _ (f .hours) (up-length (dayReply f) (f .hours)))

@@ -8,7 +8,7 @@ use Rattle.tariff.specs.declared.Expected.the-variants.{Any}
 use Rattle.tariff.specs.Hour.{contribution}
 use Rattle.blocks.specs.Block.{Block, broken, read, blockOf}
 use Rattle.sheet.specs.Settle.{replyTo, hourSaid}
-use Rattle.ledger.specs.Day.{frontOf, dayReplies, dayTotal}
+use Rattle.ledger.specs.Day.{Front, frontOf, dayReplies, dayTotal}
 use Rattle.imports.specs.Import.{importReply}
 use Rattle.answers.specs.Answers.{answerText, dayLines, importLine}
 
@@ -24,8 +24,12 @@ contributionsOf (read h) = upTo (contribution h false) (h .n)
 unfoldable pub hourText : List ℕ → List ℕ
 hourText s = let b = blockOf s in answerText (hourSaid b) (contributionsOf b) (replyTo b false Any 30)
 
-unfoldable pub dayText : (hours : ℕ) → List ℕ → List ℕ
-dayText hours s = let f = frontOf hours s in dayLines (f .fault) (dayReplies f) (dayTotal f)
+-- `day`: of what stands in front of a day's blocks, and of them; a sheet's front is its header
+unfoldable pub dayPage : Front → List ℕ
+dayPage f = dayLines (f .fault) (dayReplies f) (dayTotal f)
 
-unfoldable pub importText : (hours : ℕ) → List ℕ → List ℕ
-importText hours s = importLine (importReply hours s)
+abbrev pub dayText : List ℕ → List ℕ
+dayText s = dayPage (frontOf s)
+
+unfoldable pub importText : List ℕ → List ℕ
+importText s = importLine (importReply s)

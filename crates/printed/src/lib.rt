@@ -38,21 +38,21 @@ pub fn hour_text(block: &[u8], page: &mut [u8]) -> usize
 
 // What `day` prints of a sheet.
 pub fn day_text(sheet: &[u8], page: &mut [u8]) -> usize
-    ensures text { λ r. ⌜ now (page .exit) ≡ written (now (page .entry)) 0 (dayText 24 (now (sheet .entry))) ⌝ }
-    ensures count { λ r. ⌜ r ≡ min (length (dayText 24 (now (sheet .entry)))) (length (now (page .entry))) ⌝ }
+    ensures text { λ r. ⌜ now (page .exit) ≡ written (now (page .entry)) 0 (dayText (now (sheet .entry))) ⌝ }
+    ensures count { λ r. ⌜ r ≡ min (length (dayText (now (sheet .entry)))) (length (now (page .entry))) ⌝ }
     ensures within { λ r. ⌜ Counts r (now (page .exit)) ⌝ }
 {
     let day = ledger::settle_day(sheet);
     let header = day.header;
     let hours = day.hours;
     let total = day.total;
-    answers::put_day(page, 0, header, hours, total)
+    answers::put_day(page, 0, header, hours, day.count, total)
 }
 
 // What `import` prints of a text.
 pub fn import_text(text: &[u8], page: &mut [u8]) -> usize
-    ensures text { λ r. ⌜ now (page .exit) ≡ written (now (page .entry)) 0 (importText 24 (now (text .entry))) ⌝ }
-    ensures count { λ r. ⌜ r ≡ min (length (importText 24 (now (text .entry)))) (length (now (page .entry))) ⌝ }
+    ensures text { λ r. ⌜ now (page .exit) ≡ written (now (page .entry)) 0 (importText (now (text .entry))) ⌝ }
+    ensures count { λ r. ⌜ r ≡ min (length (importText (now (text .entry)))) (length (now (page .entry))) ⌝ }
     ensures within { λ r. ⌜ Counts r (now (page .exit)) ⌝ }
 {
     answers::put_import(page, 0, imports::settle_import(text))

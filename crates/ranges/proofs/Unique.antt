@@ -1,5 +1,7 @@
 -- No two different replies satisfy the contract of a public function.
 use Rattle.exact.proofs.Unique.{one, OneReply}
+use Rattle.ranges.proofs.is_count.Reads as is-count
+use Rattle.ranges.proofs.hours_by.Reads as hours-by
 use Rattle.ranges.proofs.is_seconds.Reads as is-seconds
 use Rattle.ranges.proofs.is_hour.Reads as is-hour
 use Rattle.ranges.proofs.is_capacity.Reads as is-capacity
@@ -8,6 +10,12 @@ use Rattle.ranges.proofs.is_mark.Reads as is-mark
 use Rattle.ranges.proofs.ahead_in_range.Reads as ahead-in-range
 use Rattle.ranges.proofs.curve_in_range.Reads as curve-in-range
 use Rattle.ranges.proofs.interval_in_range.Reads as interval-in-range
+
+pub one-is-count : OneReply is-count.Post
+one-is-count κ a r s u v p q = one r s p q
+
+pub one-hours-by : OneReply hours-by.Post
+one-hours-by κ a r s u v p q = one r s p q
 
 pub one-is-seconds : OneReply is-seconds.Post
 one-is-seconds κ a r s u v p q = one r s p q

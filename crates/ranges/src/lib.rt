@@ -1,15 +1,34 @@
 // The range of each number of a record: of an hour's, and of an import's. Any values are judged: nothing is asked of the caller.
 ghost use mathlib.Core.Path.{_≡_};
 ghost use mathlib.Core.Bool.{_&&_};
-ghost use Rattle.tariff.specs.Sheet.{isSeconds, isHour, isPower, isCapacity, isBid, isPrice, curveInRange, uolInRange, aheadInRange, intervalInRange, isMark};
+ghost use Rattle.tariff.specs.Sheet.{isCount, hoursBy, isSeconds, isHour, isPower, isCapacity, isBid, isPrice, curveInRange, uolInRange, aheadInRange, intervalInRange, isMark};
 use tariff::Curve;
 use tariff::DayAhead;
 use tariff::Interval;
 use tariff::Kw;
+use tariff::LONGEST_DAY;
 use tariff::MovePrice;
 use tariff::Price;
 use tariff::Seconds;
 use tariff::Uol;
+
+// Whether a day can have so many hours.
+pub fn is_count(count: i64) -> bool
+    ensures { λ r. ⌜ r ≡ isCount count ⌝ }
+{
+    units::lies_in(count, 23, 25)
+}
+
+// The hours of a day by the count that its text says. A count that no day has is refused, and the day taken as a usual one.
+pub fn hours_by(count: i64) -> usize
+    ensures { λ r. ⌜ r ≡ hoursBy count ⌝ }
+{
+    if is_count(count) {
+        count as usize
+    } else {
+        tariff::USUAL_DAY
+    }
+}
 
 pub fn is_seconds(s: Seconds) -> bool
     ensures { λ r. ⌜ r ≡ isSeconds (s .0) ⌝ }
@@ -17,10 +36,15 @@ pub fn is_seconds(s: Seconds) -> bool
     units::lies_in(s.0, 1, 900)
 }
 
-pub fn is_hour(h: i64) -> bool
-    ensures { λ r. ⌜ r ≡ isHour h ⌝ }
+// An hour that a block may say on a day of so many hours. Hour 23 of a day of 23 is in range: there it is out of order.
+pub fn is_hour(h: i64, hours: usize) -> bool
+    ensures { λ r. ⌜ r ≡ isHour hours h ⌝ }
 {
-    units::lies_in(h, 0, 23)
+    if hours == LONGEST_DAY {
+        units::lies_in(h, 0, 24)
+    } else {
+        units::lies_in(h, 0, 23)
+    }
 }
 
 fn is_power(k: Kw) -> bool

@@ -130,12 +130,12 @@ form-exactly-when-broken s isExcluded expected room line = (go (blockOf s) (read
 
 -- ---- the text of a record
 
--- Every hour's record within the ranges, with blanks past its counts, has a text that is read to exactly that record.
-pub reads-back : (h : Hour) → form h ≡ clear → range h ≡ clear → Plain h → blockOf (textOf h) ≡ read h
+-- Every hour's record within the ranges of any day, with blanks past its counts, has a text that is read to exactly that record.
+pub reads-back : (h : Hour) (expected : Expected) → form h ≡ clear → range h expected ≡ clear → Plain h → blockOf (textOf h) ≡ read h
 reads-back = text-read
 
 -- So has every record in the ranges that is read.
-pub reads-again : (s : List ℕ) (h : Hour) → blockOf s ≡ read h → range h ≡ clear → blockOf (textOf h) ≡ read h
+pub reads-again : (s : List ℕ) (h : Hour) (expected : Expected) → blockOf s ≡ read h → range h expected ≡ clear → blockOf (textOf h) ≡ read h
 reads-again = read-again
 
 -- A block is decided by its first 10,640 bytes: a program that reads no more of a block of any length has its exact answer.

@@ -60,7 +60,7 @@ values v =
 says : {N : ℕ} (k : ℕ) (z : ℤ) → T (leb N 9999999) → Within N z → Says k (number z) z
 says k z t w = number-said k z (within-lit t w)
 
-pub ahead-say : (h : Hour) → Within 23 (h .hour) → AheadFits (h .ahead) → AllSay AHEAD (aheadTexts h) (aheadValues h)
+pub ahead-say : (h : Hour) → Within 24 (h .hour) → AheadFits (h .ahead) → AllSay AHEAD (aheadTexts h) (aheadValues h)
 ahead-say h w f =
     says _ _ tt w and says _ _ tt (f .en) and says _ _ tt (f .reg) and says _ _ tt (f .r1) and says _ _ tt (f .r2) and says _ _ tt (f .r3)
     and says _ _ tt (f .breg) and says _ _ tt (f .b1) and says _ _ tt (f .b2) and says _ _ tt (f .b3) and nothing

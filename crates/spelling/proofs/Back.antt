@@ -5,6 +5,7 @@ use Prim.Native.Nat.{ℕ, zero, suc}
 use lib.IntN.{pos}
 use Rattle.tariff.specs.declared.Curve.{Curve}
 use Rattle.tariff.specs.declared.Hour.{Hour}
+use Rattle.tariff.specs.declared.Expected.{Expected}
 use Rattle.tariff.specs.Reply.{clear}
 use Rattle.tariff.specs.Hour.{interval, form, range}
 use Rattle.text.specs.Decimal.{number}
@@ -49,10 +50,10 @@ text-ends h =
     ends-behind (line AHEAD 10 (aheadTexts h)) (curveText DA (h .da) ++ rest) (ends-behind (curveText DA (h .da)) rest (series-ends (h .n) h (curveText RT (h .rt)) (curve-ends RT (h .rt))))
 
 -- ---- the block
-module _ (s : List ℕ) (h : Hour) (f : form h ≡ clear) (r : range h ≡ clear) (p : Plain h) where
+module _ (s : List ℕ) (h : Hour) (expected : Expected) (f : form h ≡ clear) (r : range h expected ≡ clear) (p : Plain h) where
   pub text-back : IsText s (textOf h) → blockOf s ≡ read h
-  text-back (ended e) = ap blockOf e ∙ text-read h f r p
+  text-back (ended e) = ap blockOf e ∙ text-read h expected f r p
   text-back (closed behind e) =
       let t = text-ends h in
       let whole : s ≡ t .front ++ (10 ∷ 10 ∷ behind) = e ∙ ap (λ (x : List ℕ). x ++ (10 ∷ behind)) (t .parts) ∙ append-assoc (t .front) (10 ∷ []) (10 ∷ behind) in
-      ap blockOf whole ∙ closed-or-ended (t .front) behind ∙ ap blockOf (sym (t .parts)) ∙ text-read h f r p
+      ap blockOf whole ∙ closed-or-ended (t .front) behind ∙ ap blockOf (sym (t .parts)) ∙ text-read h expected f r p

@@ -1,26 +1,29 @@
 -- An import's first two lines and its blocks, where they are read, are spelt as they are printed.
 use mathlib.Core.Path.{_≡_, refl, subst}
-use mathlib.Core.Bool.{_&&_}
-use mathlib.Core.List.{List, _++_}
+use mathlib.Core.List.{List, [], _∷_, _++_}
 use Prim.Native.Nat.{ℕ}
 use native.Mathlib.Omega.{arith}
+use lib.IntN.{pos}
+use Rattle.exact.specs.Choice.{if_then_else_}
 use Rattle.exact.specs.Whole.{upTo}
 use Rattle.exact.proofs.Apart.{impossible}
+use Rattle.exact.proofs.Parts.{by-test}
 use Rattle.tariff.specs.declared.Curtailed.{Curtailed}
 use Rattle.tariff.specs.declared.ImportHour.{ImportHour}
 use Rattle.tariff.specs.Reply.{FORM, RANGE, Verdict, clear, unless, _then_}
 use Rattle.tariff.specs.Import.{blankCurtailed}
-use Rattle.tariff.specs.Sheet.{isMark, isName}
+use Rattle.tariff.specs.Sheet.{USUAL-DAY}
 use Rattle.tariff.proofs.Checks.{then-clear, unless-clear}
+use Rattle.text.specs.Decimal.{number}
 use Rattle.text.specs.declared.Next.{Next}
 use Rattle.text.specs.declared.Next.the-variants.{At, Wrong}
 use Rattle.keys.specs.Keys.{IMPORT, IMPORT-HOUR, CURTAILED}
-use Rattle.lines.specs.Line.{isAt, placeIn, valueIn}
+use Rattle.lines.specs.Line.{isAt, placeIn, valueIn, lineAt}
 use Rattle.lines.specs.Series.{seriesPlace, Series}
-use Rattle.lines.specs.Print.{line}
+use Rattle.lines.specs.Print.{fields, line}
 use Rattle.lines.proofs.Series.{Found, all, broken-at, series-found}
 use Rattle.header.proofs.HeaderLines.{is-at}
-use Rattle.imports.specs.Import.{headLine, headPlace, nameIn, ctsIn, headFault, importBody, importHourLine, curtailedLine, curtailedSaid, importHourWith, broken, read, withCurtailed, afterImportLine1, importBlockAt}
+use Rattle.imports.specs.Import.{saysHours, pairsIn, headLine, headPlace, nameIn, ctsIn, countIn, headInRange, headFault, importBody, importHourLine, curtailedLine, curtailedSaid, importHourWith, broken, read, withCurtailed, afterImportLine1, importBlockAt}
 use Rattle.spelling.specs.Spelt.{Spelt, Bytes, IsText}
 use Rattle.spelling.specs.Value.{valueText, valueTexts}
 use Rattle.spelling.specs.Import.{headText, curtailedTexts, curtailedText, blockText}
@@ -34,14 +37,26 @@ module _ (s : List ℕ) where
   head-stands : headFault s ≡ clear → headPlace s ≡ At (placeIn (headPlace s))
   unfolding headFault
   head-stands e =
-      let range : Verdict = unless (isName (nameIn s) && isMark (ctsIn s)) RANGE 1 in
+      let range : Verdict = unless (headInRange s) RANGE 1 in
       let second : Verdict = unless (isAt (headPlace s)) FORM 2 in
       let behind = then-clear (unless (isAt (headLine s)) FORM 1) (second then range) e .1 in
       is-at (headPlace s) (unless-clear (isAt (headPlace s)) FORM 2 (then-clear second range behind .0))
 
-  pub head-text : headFault s ≡ clear → s ≡ headText (nameIn s) (ctsIn s) ++ importBody s
-  unfolding headPlace headText valueTexts valueText upTo
-  head-text e = fed-spelt (headLine s) (λ i. line-spelt IMPORT s 0 2 i) (head-stands e) .bytes
+  -- line 1 has a text for its third pair, which is printed where it has that pair
+  line-stands : (i : ℕ) → headLine s ≡ At i
+      → Spelt s 0 (line IMPORT (pairsIn s) (number (nameIn s) ∷ number (ctsIn s) ∷ number (countIn s) ∷ [])) i
+  unfolding countIn valueTexts valueText upTo line fields
+  line-stands i =
+      by-test (saysHours s)
+      (λ t.
+      lineAt IMPORT (if t then 3 else 2) s 0 ≡ At i
+      → Spelt s 0 (line IMPORT (if t then 3 else 2) (number (nameIn s) ∷ number (ctsIn s) ∷ number (if t then valueIn IMPORT s 0 2 else pos USUAL-DAY) ∷ [])) i)
+      (λ e. line-spelt IMPORT s 0 3 i)
+      (λ e. line-spelt IMPORT s 0 2 i)
+
+  pub head-text : headFault s ≡ clear → s ≡ headText (nameIn s) (ctsIn s) (saysHours s) (countIn s) ++ importBody s
+  unfolding headPlace headText
+  head-text e = fed-spelt (headLine s) line-stands (head-stands e) .bytes
 
 -- ---- a block
 never-read : {line : ℕ} {h : ImportHour} → broken line ≡ read h → ⊥

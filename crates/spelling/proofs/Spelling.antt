@@ -6,15 +6,16 @@ use mathlib.Core.List.{List, _++_}
 use mathlib.Core.Logic.{_↔_}
 use Prim.Native.Nat.{ℕ}
 use Rattle.tariff.specs.declared.Hour.{Hour}
+use Rattle.tariff.specs.declared.Expected.{Expected}
 use Rattle.tariff.specs.declared.ImportHour.{ImportHour}
 use Rattle.tariff.specs.Reply.{clear}
 use Rattle.tariff.specs.Hour.{form, range}
 use Rattle.blocks.specs.Block.{blockOf, read}
 use Rattle.sheet.specs.Print.{textOf, Plain}
-use Rattle.header.specs.Header.{headerFault, unitOf, marksOf}
+use Rattle.header.specs.Header.{isForm2, hoursOf, headerFault, unitOf, marksOf}
 use Rattle.ledger.specs.Day.{frontOf}
 use Rattle.imports.specs.Import as import
-use Rattle.imports.specs.Import.{nameIn, ctsIn, headFault, importBody, importBlockAt}
+use Rattle.imports.specs.Import.{saysHours, nameIn, ctsIn, countIn, headFault, importBody, importBlockAt}
 use Rattle.spelling.specs.Spelt.{Bytes, IsText}
 use Rattle.spelling.specs.Header.{headerText}
 use Rattle.spelling.specs.Import.{headText, blockText}
@@ -28,27 +29,28 @@ use Rattle.spelling.proofs.Imports.{head-text, import-block-text}
 pub a-block-that-is-read-is-its-text : (s : List ℕ) (h : Hour) → Bytes s → blockOf s ≡ read h → IsText s (textOf h)
 a-block-that-is-read-is-its-text = block-text
 
--- So where nothing is out of its range, a text is read to a record exactly when it is that record's printed text, so closed. `Plain` says what
+-- So where nothing is out of its range, on a day of whatever count, a text is read to a record exactly when it is that record's printed text, so closed. `Plain` says what
 -- stands in the record's arrays past their counts.
 pub a-text-is-read-to-a-record-exactly-when-it-is-its-text :
-    (s : List ℕ) (h : Hour)
+    (s : List ℕ) (h : Hour) (expected : Expected)
     → Bytes s
     → form h ≡ clear
-    → range h ≡ clear
+    → range h expected ≡ clear
     → Plain h
     → (blockOf s ≡ read h) ↔ IsText s (textOf h)
-a-text-is-read-to-a-record-exactly-when-it-is-its-text s h b f r p = (block-text s h b, text-back s h f r p)
+a-text-is-read-to-a-record-exactly-when-it-is-its-text s h expected b f r p = (block-text s h b, text-back s h expected f r p)
 
--- A sheet whose header is not refused begins with the printed header of its unit and its marks. Behind it stand the blocks.
+-- A sheet whose header is not refused begins with the printed header of its form, its count, its unit and its marks. Behind it stand the blocks.
 pub a-header-that-is-read-is-its-text :
-    (hours : ℕ) (s : List ℕ)
-    → headerFault hours s ≡ clear
-    → s ≡ headerText hours (unitOf hours s) (marksOf hours s) ++ frontOf hours s .body
+    (s : List ℕ)
+    → headerFault s ≡ clear
+    → s ≡ headerText (isForm2 s) (hoursOf s) (unitOf s) (marksOf s) ++ frontOf s .body
 a-header-that-is-read-is-its-text = header-text
 
--- An import whose first two lines are not refused begins with them as they are printed of its name and its mark, and a block of it that is
--- read is the printed text of its record.
-pub an-import-that-is-read-begins-with-its-text : (s : List ℕ) → headFault s ≡ clear → s ≡ headText (nameIn s) (ctsIn s) ++ importBody s
+-- An import whose first two lines are not refused begins with them as they are printed of its name, its mark and, where it says it, its count
+-- of hours; and a block of it that is read is the printed text of its record.
+pub an-import-that-is-read-begins-with-its-text : (s : List ℕ) → headFault s ≡ clear
+    → s ≡ headText (nameIn s) (ctsIn s) (saysHours s) (countIn s) ++ importBody s
 an-import-that-is-read-begins-with-its-text = head-text
 
 pub a-block-of-an-import-that-is-read-is-its-text : (s : List ℕ) (h : ImportHour) → Bytes s → importBlockAt s 0 ≡ import.read h → IsText s (blockText h)

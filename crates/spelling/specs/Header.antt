@@ -1,7 +1,7 @@
 -- The text of a header, line by line from its layout: each key and what stands behind it, and the closing empty line. Each row has a digit for
 -- each of the day's `hours`, hour 0's first.
 use mathlib.Core.Path.{_≡_, refl}
-use mathlib.Core.Bool.{true}
+use mathlib.Core.Bool.{Bool, true, false}
 use mathlib.Core.List.{List, [], _∷_, _++_}
 use Prim.Native.Nat.{ℕ, _+_}
 use lib.IntN.{ℤ, pos}
@@ -12,10 +12,10 @@ use Rattle.tariff.specs.Derate.{one}
 use Rattle.tariff.specs.Eligible.{marked}
 use Rattle.text.specs.Text.{ZERO, LF, bytes}
 use Rattle.text.specs.Decimal.{natural, number}
-use Rattle.keys.specs.Keys.{keyOf}
+use Rattle.keys.specs.Keys.{FORM-LINE, HOURS-LINE, keyOf}
 use Rattle.header.specs.declared.layout.Line.{Line}
-use Rattle.header.specs.declared.layout.Line.the-variants.{Number, Row, Close}
-use Rattle.header.specs.Header.{form1}
+use Rattle.header.specs.declared.layout.Line.the-variants.{Number, Row, Run, Close}
+use Rattle.header.specs.Header.{unitAndMarks}
 
 -- ---- any layout
 
@@ -23,6 +23,7 @@ use Rattle.header.specs.Header.{form1}
 abbrev pub saidText : Line → List ℕ → List ℕ
 saidText (Number key least most) text = keyOf key ++ text
 saidText (Row key admitted) text = keyOf key ++ text
+saidText (Run key) text = keyOf key ++ text
 saidText Close text = []
 
 unfoldable pub layoutText : List Line → (texts : List (List ℕ)) → List ℕ
@@ -41,12 +42,11 @@ category m h = getD (m .cat) h 0
 abbrev pub mark : (word : ℕ) → ℕ → ℕ
 mark word h = one (marked word h)
 
--- ---- form 1; the unit and the day's marks are what it says
-unfoldable pub headerText : (hours : ℕ) → (unit : ℤ) → Marks → List ℕ
-headerText hours unit m =
-    layoutText form1
-    (number (pos 1)
-    ∷ number unit
+-- ---- form 2 says how many hours the day has; the unit and the day's marks are what both forms say
+unfoldable pub unitAndMarksText : (hours : ℕ) → (unit : ℤ) → Marks → List ℕ
+unitAndMarksText hours unit m =
+    layoutText (unitAndMarks true)
+    (number unit
     ∷ number (pos (one (m .rtc)))
     ∷ row hours (category m)
     ∷ row hours (mark (m .x1))
@@ -57,8 +57,15 @@ headerText hours unit m =
     ∷ row hours (mark (m .x6))
     ∷ [])
 
+abbrev pub numberLine : (key : ℕ) → ℤ → List ℕ
+numberLine key z = (keyOf key ++ number z) ++ (LF ∷ [])
+
+abbrev pub headerText : (two : Bool) → (hours : ℕ) → (unit : ℤ) → Marks → List ℕ
+headerText true hours unit m = numberLine FORM-LINE (pos 2) ++ (numberLine HOURS-LINE (pos hours) ++ unitAndMarksText hours unit m)
+headerText false hours unit m = numberLine FORM-LINE (pos 1) ++ unitAndMarksText hours unit m
+
 -- ---- an example: three hours, of which x4 marks the last
-three : headerText 3 (pos 4711) (record { rtc = true; cat = 1 ∷ 5 ∷ 0 ∷ []; x1 = 0; x2 = 0; x3 = 0; x4 = 4; x5 = 0; x6 = 0 })
-    ≡ bytes "form=1\nunit=4711\nrtc=1\ncat=150\nx1=000\nx2=000\nx3=000\nx4=001\nx5=000\nx6=000\n\n"
-unfolding headerText layoutText row natural upTo
+three : headerText true 3 (pos 4711) (record { rtc = true; cat = 1 ∷ 5 ∷ 0 ∷ []; x1 = 0; x2 = 0; x3 = 0; x4 = 4; x5 = 0; x6 = 0 })
+    ≡ bytes "form=2\nhours=3\nunit=4711\nrtc=1\ncat=150\nx1=000\nx2=000\nx3=000\nx4=001\nx5=000\nx6=000\n\n"
+unfolding unitAndMarksText layoutText row natural upTo
 three = refl

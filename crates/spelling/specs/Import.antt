@@ -1,8 +1,11 @@
--- The text of an import: `import=N cts=C` and an empty line; and that of a block, `hour den dec` and a line for each interval.
+-- The text of an import: `import=N cts=C`, which ` hours=H` may end, and an empty line; and that of a block, `hour den dec` and a line for
+-- each interval.
 use mathlib.Core.Path.{_≡_, refl}
+use mathlib.Core.Bool.{Bool, true, false}
 use mathlib.Core.List.{List, [], _∷_, _++_}
 use Prim.Native.Nat.{ℕ, zero, suc}
 use lib.IntN.{ℤ, pos, negsuc}
+use Rattle.exact.specs.Choice.{if_then_else_}
 use Rattle.tariff.specs.declared.Curtailed.{Curtailed}
 use Rattle.tariff.specs.declared.ImportHour.{ImportHour}
 use Rattle.tariff.specs.Units.{kw, price, seconds}
@@ -12,9 +15,9 @@ use Rattle.text.specs.Decimal.{natural, number}
 use Rattle.keys.specs.Keys.{IMPORT, IMPORT-HOUR, CURTAILED}
 use Rattle.lines.specs.Print.{fields, line}
 
--- the first two lines
-unfoldable pub headText : (name cts : ℤ) → List ℕ
-headText name cts = line IMPORT 2 (number name ∷ number cts ∷ []) ++ (LF ∷ [])
+-- the first two lines, of which the first says the count of the day's hours or leaves it out
+unfoldable pub headText : (name cts : ℤ) → (says : Bool) → (count : ℤ) → List ℕ
+headText name cts says count = line IMPORT (if says then 3 else 2) (number name ∷ number cts ∷ number count ∷ []) ++ (LF ∷ [])
 
 -- a line `s cut prof rten lbmp bid def`
 abbrev pub curtailedTexts : Curtailed → List (List ℕ)
@@ -29,9 +32,13 @@ unfoldable pub blockText : ImportHour → List ℕ
 blockText h = line IMPORT-HOUR 3 (number (h .hour) ∷ number (h .den .0) ∷ number (h .dec .0) ∷ []) ++ curtailedText (h .n) h
 
 -- ---- examples
-head : headText (pos 77) (pos 0) ≡ bytes "import=77 cts=0\n\n"
+head : headText (pos 77) (pos 0) false (pos 24) ≡ bytes "import=77 cts=0\n\n"
 unfolding headText line fields natural
 head = refl
+
+head-with-hours : headText (pos 77) (pos 0) true (pos 25) ≡ bytes "import=77 cts=0 hours=25\n\n"
+unfolding headText line fields natural
+head-with-hours = refl
 
 block : blockText
     (record {

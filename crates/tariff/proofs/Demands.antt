@@ -156,20 +156,20 @@ form-comes-first h isExcluded expected room line = turn-given (generator h isExc
 -- RANGE is given exactly when a number is outside its range, at the first such line.
 pub range-exactly-when-outside :
     (h : Hour) (isExcluded : Bool) (expected : Expected) (room line : ℕ)
-    → (reply h isExcluded expected room ≡ refused RANGE line) ↔ ((form h ≡ clear) × FirstOutOfRange h line)
-range-exactly-when-outside h isExcluded expected room line = turn-given (generator h isExcluded expected) room RANGE 1 line refl refl refl (range-finds h line)
+    → (reply h isExcluded expected room ≡ refused RANGE line) ↔ ((form h ≡ clear) × FirstOutOfRange h expected line)
+range-exactly-when-outside h isExcluded expected room line = turn-given (generator h isExcluded expected) room RANGE 1 line refl refl refl (range-finds h expected line)
 
 -- ORDER is given exactly when an hour is expected and the block says another, at 1.
 pub order-exactly-when-another-hour :
     (h : Hour) (isExcluded : Bool) (expected : Expected) (room place : ℕ)
-    → (reply h isExcluded expected room ≡ refused ORDER place) ↔ ((form h ≡ clear) × (range h ≡ clear) × (place ≡ 1) × SaysAnotherHour h expected)
+    → (reply h isExcluded expected room ≡ refused ORDER place) ↔ ((form h ≡ clear) × (range h expected ≡ clear) × (place ≡ 1) × SaysAnotherHour h expected)
 order-exactly-when-another-hour h isExcluded expected room place =
     Iff·trans (turn-given (generator h isExcluded expected) room ORDER 2 place refl refl refl (order-finds h place expected)) of-four
 
 -- CURVE is given exactly when a curve rule is broken, at line 2 or 3, the first.
 pub curve-exactly-when-broken :
     (h : Hour) (isExcluded : Bool) (expected : Expected) (room line : ℕ)
-    → (reply h isExcluded expected room ≡ refused CURVE line) ↔ ((form h ≡ clear) × (range h ≡ clear) × (order h expected ≡ clear) × FirstCurveBroken h line)
+    → (reply h isExcluded expected room ≡ refused CURVE line) ↔ ((form h ≡ clear) × (range h expected ≡ clear) × (order h expected ≡ clear) × FirstCurveBroken h line)
 curve-exactly-when-broken h isExcluded expected room line =
     Iff·trans (turn-given (generator h isExcluded expected) room CURVE 3 line refl refl refl (curves-find h line)) of-four
 

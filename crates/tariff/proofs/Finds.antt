@@ -39,8 +39,8 @@ module _ (test : ℕ → Bool) (number : ℕ) where
 
 -- ---- the lines of a block are tested in their order
 
-module _ (h : Hour) where
-  range-lines : range h ≡ firstOf (lineFault (lineInRange h) RANGE) (suc (h .n + 3))
+module _ (h : Hour) (expected : Expected) where
+  range-lines : range h expected ≡ firstOf (lineFault (lineInRange h expected) RANGE) (suc (h .n + 3))
   unfolding range firstOf
   range-lines =
       let all = first-behind check 4 (h .n) in
@@ -50,7 +50,7 @@ module _ (h : Hour) where
       ∙ ap (firstOf check) count
     where
       check : ℕ → Verdict
-      check = lineFault (lineInRange h) RANGE
+      check = lineFault (lineInRange h expected) RANGE
 
       same : (i : ℕ) → unless (intervalInRange (interval h i)) RANGE (i + 4) ≡ check (4 + i)
       same i =
@@ -58,9 +58,10 @@ module _ (h : Hour) where
           let turned : 4 + i ≡ suc (suc (suc (suc i))) = omega arith in
           rw (four, turned)
 
-  pub range-finds : (line : ℕ) → (range h ≡ fault RANGE line) ↔ FirstOutOfRange h line
-  range-finds line = rw range-lines (line-when (lineInRange h) RANGE (h .n + 3) line)
+  pub range-finds : (line : ℕ) → (range h expected ≡ fault RANGE line) ↔ FirstOutOfRange h expected line
+  range-finds line = rw range-lines (line-when (lineInRange h expected) RANGE (h .n + 3) line)
 
+module _ (h : Hour) where
   curve-lines : curves h ≡ firstOf (lineFault (lineKeeps h) CURVE) 4
   unfolding curves firstOf
   curve-lines = refl
@@ -77,9 +78,9 @@ module _ (h : Hour) (place : ℕ) where
   pub order-finds : (expected : Expected) → (order h expected ≡ fault ORDER place) ↔ ((place ≡ 1) × SaysAnotherHour h expected)
   unfolding order
   order-finds Any = (λ e. absurd (never-clear (sym e)), λ w. absurd (let a = w .1 .asked in impossible cc))
-  order-finds (Says hour) =
+  order-finds (Says hour hours) =
       let broken = unless-when (eqZ (h .hour) hour) ORDER 1 place in (
-        λ e. let w = broken .0 e in (w .1, record { hour = hour; asked = refl; other = differ (h .hour) hour .0 (w .0) }),
+        λ e. let w = broken .0 e in (w .1, record { hour = hour; hours = hours; asked = refl; other = differ (h .hour) hour .0 (w .0) }),
         λ w.
             let same : w .1 .hour ≡ hour = let a = w .1 .asked in cc in
             broken .1 (differ (h .hour) hour .1 (λ q. w .1 .other (q ∙ sym same)), w .0),

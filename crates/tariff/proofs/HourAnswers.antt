@@ -1,12 +1,9 @@
--- The answers of a day's hours: one more, all the same, the reply for each, and that the replies tell them.
+-- The answers of a day's hours: one that is written, all the same, the reply for each, and that the replies tell them.
 use mathlib.Core.Path.{_≡_, refl, ap, _∙_}
-use mathlib.Core.List.{List, [], _∷_, _++_}
-use Prim.Native.Nat.{ℕ, zero, suc, _+_, _<_}
-use native.Mathlib.Numerals.{add-one}
+use mathlib.Core.List.{List, [], _∷_}
+use Prim.Native.Nat.{ℕ, zero, suc, _<_}
 use native.Mathlib.Omega.{arith}
-use lib.ListN.{length, getD, take, set, replicate}
-use lib.Seq.{take-suc-set}
-use Rattle.exact.specs.Whole.{upTo}
+use lib.ListN.{length, getD, set, replicate}
 use Rattle.exact.proofs.Apart.{impossible}
 use Rattle.tariff.specs.declared.Answer.{Answer}
 use Rattle.tariff.specs.Reply.{Reply, told}
@@ -17,27 +14,18 @@ use Rattle.tariff.specs.Total.{toldAll}
 abbrev pub hourAnswer : Answer → HourAnswer
 hourAnswer a = record { answer = a }
 
-told-snoc : (l : List HourAnswer) (p : HourAnswer) → toldAll (l ++ (p ∷ [])) ≡ toldAll l ++ (told (p .answer) ∷ [])
+-- one is written
+pub told-set : (l : List HourAnswer) (k : ℕ) (a : Answer) → toldAll (set l k (hourAnswer a)) ≡ set (toldAll l) k (told a)
 unfolding toldAll
-told-snoc [] p = refl
-told-snoc (x ∷ l) p = ap {B = List Reply} (λ r. told (x .answer) ∷ r) (told-snoc l p)
-
--- one more is written
-pub told-next : (f : ℕ → Reply) (l : List HourAnswer) (k : ℕ) (a : Answer) → k < length l → toldAll (take k l) ≡ upTo f k → told a ≡ f k
-    → toldAll (take (k + 1) (set l k (hourAnswer a))) ≡ upTo f (k + 1)
-unfolding upTo
-told-next f l k a u e q = rw (add-one, take-suc-set l k (hourAnswer a) u, told-snoc, e, q)
-
-up-front : (f : ℕ → Reply) (r : Reply) (n : ℕ) → ((k : ℕ) → f k ≡ r) → r ∷ upTo f n ≡ upTo f n ++ (r ∷ [])
-unfolding upTo
-up-front f r zero h = refl
-up-front f r (suc n) h = rw (h n) (ap (λ (l : List Reply). l ++ (r ∷ [])) (up-front f r n h))
+told-set [] k a = refl
+told-set (p ∷ l) zero a = refl
+told-set (p ∷ l) (suc k) a = ap {B = List Reply} (λ r. told (p .answer) ∷ r) (told-set l k a)
 
 -- every hour has the same answer
-pub told-filled : (a : Answer) (n : ℕ) → toldAll (replicate n (hourAnswer a)) ≡ upTo (λ _. told a) n
-unfolding toldAll upTo
-told-filled a zero = refl
-told-filled a (suc n) = ap {B = List Reply} (λ l. told a ∷ l) (told-filled a n) ∙ up-front (λ _. told a) (told a) n (λ k. refl)
+pub told-same : (a : Answer) (n : ℕ) → toldAll (replicate n (hourAnswer a)) ≡ replicate n (told a)
+unfolding toldAll
+told-same a zero = refl
+told-same a (suc n) = ap {B = List Reply} (λ l. told a ∷ l) (told-same a n)
 
 -- there is a reply for each answer, and it is that answer's
 pub told-length : (l : List HourAnswer) (n : ℕ) → length l ≡ n → length (toldAll l) ≡ n

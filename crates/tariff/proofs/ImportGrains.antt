@@ -58,9 +58,9 @@ gap-within : {a b : ℤ} → pos 0 ≤ℤ a → pos 0 ≤ℤ b → Within 200000
 gap-within {a} {b} f g v w = omega (arithℤ, less-parts a b, apart (a -ℤ b))
 
 -- 2,000,000 cents per MWh, 2,000,000 kW and 900 seconds at most
-pub grains-within : (cts : ℤ) (h : ImportHour) (v : Curtailed) → FirstFits h → CurtailedFits v → Within 3600000000000000 (importGrains cts h v)
+pub grains-within : (cts : ℤ) (hours : ℕ) (h : ImportHour) (v : Curtailed) → FirstFits hours h → CurtailedFits v → Within 3600000000000000 (importGrains cts h v)
 unfolding importGrains
-grains-within cts h v f w =
+grains-within cts hours h v f w =
     let cut = gap-within (f .den-least) (w .rten-least) (f .den) (w .rten) in
     within-if (counts cts h v) (within-lit tt (within-mul (within-mul (within-less (w .lbmp) (within-max (f .dec) (omega arith))) cut) (w .s))) (within-zero 3600000000000000)
 
@@ -69,10 +69,10 @@ pub part-least : (cts : ℤ) (h : ImportHour) → pos 0 ≤ℤ importPart cts h
 unfolding importPart
 part-least cts h = omega (arithℤ, max-parts (importSum cts h) (pos 0))
 
-pub part-within : (cts : ℤ) (h : ImportHour) (k : ℕ) → importFault h k ≡ clear → Within 108000000000000000 (importPart cts h)
+pub part-within : (cts : ℤ) (hours : ℕ) (h : ImportHour) (k : ℕ) → importFault hours h k ≡ clear → Within 108000000000000000 (importPart cts h)
 unfolding importPart importSum
-part-within cts h k e =
-    let says = import-clear-says h k e in
-    let each = import-range-says h (says .1) in
-    let all = sum-within 3600000000000000 (λ i. importGrains cts h (curtailed h i)) (h .n) (λ i u. grains-within cts h (curtailed h i) (each .0) (each .1 i u)) in
+part-within cts hours h k e =
+    let says = import-clear-says hours h k e in
+    let each = import-range-says hours h (says .1) in
+    let all = sum-within 3600000000000000 (λ i. importGrains cts h (curtailed h i)) (h .n) (λ i u. grains-within cts hours h (curtailed h i) (each .0) (each .1 i u)) in
     within-max (within-more (omega (arith, import-form-says h (says .0))) all) (within-zero 108000000000000000)

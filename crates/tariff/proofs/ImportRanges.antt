@@ -34,19 +34,19 @@ curtailed-fits v e =
 
 -- ---- line 1
 
-pub record FirstFits (h : ImportHour) : Type 0 where
-  pub hour : isHour (h .hour) ≡ true
+pub record FirstFits (hours : ℕ) (h : ImportHour) : Type 0 where
+  pub hour : isHour hours (h .hour) ≡ true
   pub den : Within 2000000 (h .den .0)
   pub den-least : pos 0 ≤ℤ h .den .0
   pub dec : Within 1000000 (h .dec .0)
 
-first-fits : (h : ImportHour) → (isHour (h .hour) && isCapacity (h .den .0) && isPrice (h .dec .0)) ≡ true → FirstFits h
-first-fits h e =
-    let two = isHour (h .hour) && isCapacity (h .den .0) in
+first-fits : (hours : ℕ) (h : ImportHour) → (isHour hours (h .hour) && isCapacity (h .den .0) && isPrice (h .dec .0)) ≡ true → FirstFits hours h
+first-fits hours h e =
+    let two = isHour hours (h .hour) && isCapacity (h .den .0) in
     let t = and-left two (isPrice (h .dec .0)) e in
-    let den = and-right (isHour (h .hour)) (isCapacity (h .den .0)) t in
+    let den = and-right (isHour hours (h .hour)) (isCapacity (h .den .0)) t in
     record {
-      hour = and-left (isHour (h .hour)) (isCapacity (h .den .0)) t;
+      hour = and-left (isHour hours (h .hour)) (isCapacity (h .den .0)) t;
       den = capacity-within den;
       den-least = capacity-least den;
       dec = price-within (and-right two (isPrice (h .dec .0)) e);
@@ -58,19 +58,19 @@ pub import-form-says : (h : ImportHour) → importForm h ≡ clear → h .n ≤ 
 unfolding importForm
 import-form-says h e = leb-true _ _ (unless-clear _ FORM 32 e)
 
-pub import-range-says : (h : ImportHour) → importRange h ≡ clear → FirstFits h × ((i : ℕ) → i < h .n → CurtailedFits (curtailed h i))
+pub import-range-says : (hours : ℕ) (h : ImportHour) → importRange hours h ≡ clear → FirstFits hours h × ((i : ℕ) → i < h .n → CurtailedFits (curtailed h i))
 unfolding importRange
-import-range-says h e =
-    let first = isHour (h .hour) && isCapacity (h .den .0) && isPrice (h .dec .0) in
+import-range-says hours h e =
+    let first = isHour hours (h .hour) && isCapacity (h .den .0) && isPrice (h .dec .0) in
     let each : ℕ → Verdict = λ i. unless (curtailedInRange (curtailed h i)) RANGE (i + 2) in
     let p = then-clear (unless first RANGE 1) (firstOf each (h .n)) e in (
-      first-fits h (unless-clear first RANGE 1 (p .0)),
+      first-fits hours h (unless-clear first RANGE 1 (p .0)),
       λ i u. curtailed-fits (curtailed h i) (unless-clear _ RANGE (i + 2) (first-clear each (h .n) (p .1) i u)),
     )
 
 -- a block without a fault passes both
-pub import-clear-says : (h : ImportHour) (k : ℕ) → importFault h k ≡ clear → (importForm h ≡ clear) × (importRange h ≡ clear)
-import-clear-says h k e =
+pub import-clear-says : (hours : ℕ) (h : ImportHour) (k : ℕ) → importFault hours h k ≡ clear → (importForm h ≡ clear) × (importRange hours h ≡ clear)
+import-clear-says hours h k e =
     let later = importOrder h k then importSeconds h in
-    let p = then-clear (importForm h) (importRange h then later) e in
-    (p .0, then-clear (importRange h) later (p .1) .0)
+    let p = then-clear (importForm h) (importRange hours h then later) e in
+    (p .0, then-clear (importRange hours h) later (p .1) .0)

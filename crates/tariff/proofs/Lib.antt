@@ -1,6 +1,7 @@
 -- What is proved of the definitions: `Demands` states it, the others hold the laws that it cites and those that the engine needs.
 pub mod Tests
 pub mod Checks
+pub mod Counts
 pub mod Turns
 pub mod Stops
 pub mod AnyHour

@@ -24,7 +24,7 @@ module _ (h : Hour) (expected : Expected) where
   abbrev pub turns : List Turn
   turns =
       record { number = FORM; finds = form h; own = form-only h }
-      ∷ record { number = RANGE; finds = range h; own = range-only h }
+      ∷ record { number = RANGE; finds = range h expected; own = range-only h expected }
       ∷ record { number = ORDER; finds = order h expected; own = order-only h expected }
       ∷ record { number = CURVE; finds = curves h; own = curves-only h }
       ∷ record { number = SECONDS; finds = secondsSum h; own = seconds-only h }
@@ -32,7 +32,7 @@ module _ (h : Hour) (expected : Expected) where
 
   pub in-turn : blockFault h expected ≡ inTurn turns
   unfolding inTurn
-  in-turn = ap (λ (v : Verdict). form h then range h then order h expected then curves h then v) (sym (then-nothing (secondsSum h)))
+  in-turn = ap (λ (v : Verdict). form h then range h expected then order h expected then curves h then v) (sym (then-nothing (secondsSum h)))
 
   -- ---- hours that they do not refuse
 

@@ -13,9 +13,10 @@ use Rattle.tariff.specs.declared.Curve.{Curve}
 use Rattle.tariff.specs.declared.DayAhead.{DayAhead}
 use Rattle.tariff.specs.declared.Interval.{Interval}
 use Rattle.tariff.specs.declared.Hour.{Hour}
+use Rattle.tariff.specs.declared.Expected.{Expected}
 use Rattle.tariff.specs.Sheet.{liesIn, isSeconds, isHour, isPower, isCapacity, isBid, isPrice, endOf, priceOf, allTo, aheadInRange, stepInRange, curveInRange, uolInRange, intervalInRange}
 use Rattle.tariff.specs.Reply.{FORM, RANGE, Verdict, clear, unless, _then_, firstOf}
-use Rattle.tariff.specs.Hour.{interval, form, range}
+use Rattle.tariff.specs.Hour.{interval, hoursAround, form, range}
 use Rattle.tariff.proofs.Checks.{then-clear, unless-clear, first-clear}
 use Rattle.tariff.proofs.Tests.{and-left, and-right, and-both, all-at}
 
@@ -135,17 +136,17 @@ form-says h e =
     let q = then-clear rt n (p .1) in
     (leb-true _ _ (unless-clear _ FORM 2 (p .0)), leb-true _ _ (unless-clear _ FORM 3 (q .0)), leb-true _ _ (unless-clear _ FORM 34 (q .1)))
 
-pub range-says : (h : Hour) → range h ≡ clear → (isHour (h .hour) ≡ true) × (aheadInRange (h .ahead) ≡ true) × (curveInRange (h .da) ≡ true) × (curveInRange (h .rt) ≡ true) × ((i : ℕ) → i < h .n → intervalInRange (interval h i) ≡ true)
+pub range-says : (h : Hour) (expected : Expected) → range h expected ≡ clear → (isHour (hoursAround expected) (h .hour) ≡ true) × (aheadInRange (h .ahead) ≡ true) × (curveInRange (h .da) ≡ true) × (curveInRange (h .rt) ≡ true) × ((i : ℕ) → i < h .n → intervalInRange (interval h i) ≡ true)
 unfolding range
-range-says h e =
-    let first = isHour (h .hour) && aheadInRange (h .ahead) in
+range-says h expected e =
+    let first = isHour (hoursAround expected) (h .hour) && aheadInRange (h .ahead) in
     let each : ℕ → Verdict = λ i. unless (intervalInRange (interval h i)) RANGE (i + 4) in
     let p = then-clear (unless first RANGE 1) (unless (curveInRange (h .da)) RANGE 2 then unless (curveInRange (h .rt)) RANGE 3 then firstOf each (h .n)) e in
     let q = then-clear (unless (curveInRange (h .da)) RANGE 2) (unless (curveInRange (h .rt)) RANGE 3 then firstOf each (h .n)) (p .1) in
     let r = then-clear (unless (curveInRange (h .rt)) RANGE 3) (firstOf each (h .n)) (q .1) in
     let line1 = unless-clear first RANGE 1 (p .0) in (
-      and-left (isHour (h .hour)) (aheadInRange (h .ahead)) line1,
-      and-right (isHour (h .hour)) (aheadInRange (h .ahead)) line1,
+      and-left (isHour (hoursAround expected) (h .hour)) (aheadInRange (h .ahead)) line1,
+      and-right (isHour (hoursAround expected) (h .hour)) (aheadInRange (h .ahead)) line1,
       unless-clear _ RANGE 2 (q .0),
       unless-clear _ RANGE 3 (r .0),
       λ i u. unless-clear _ RANGE (i + 4) (first-clear each (h .n) (r .1) i u),

@@ -15,7 +15,7 @@ use Rattle.tariff.specs.Reply.{clear}
 use Rattle.tariff.specs.Eligible.{lags}
 use Rattle.tariff.specs.Derate.{exceedsRoom, reduced}
 use Rattle.tariff.specs.Contributions.{curveIn, lowerIn, limitIn}
-use Rattle.tariff.specs.Hour.{interval, form, range, order, curves, secondsSum, intervals}
+use Rattle.tariff.specs.Hour.{interval, hoursAround, form, range, order, curves, secondsSum, intervals}
 
 -- kilowatt k lies between a and b, whichever is the greater
 pub record Between (a b k : ℤ) : Type 0 where
@@ -74,12 +74,12 @@ pub record ExceededBeforeReach (h : Hour) (isExcluded : Bool) : Type 0 where
 -- ---- the lines of a block: 1 has the hour and the day-ahead schedules, 2 and 3 the two curves, i + 4 interval i. There is no line 0
 
 -- a line's numbers are in their ranges
-abbrev pub lineInRange : Hour → ℕ → Bool
-lineInRange h zero = true
-lineInRange h (suc zero) = isHour (h .hour) && aheadInRange (h .ahead)
-lineInRange h (suc (suc zero)) = curveInRange (h .da)
-lineInRange h (suc (suc (suc zero))) = curveInRange (h .rt)
-lineInRange h (suc (suc (suc (suc i)))) = intervalInRange (interval h i)
+abbrev pub lineInRange : Hour → Expected → ℕ → Bool
+lineInRange h expected zero = true
+lineInRange h expected (suc zero) = isHour (hoursAround expected) (h .hour) && aheadInRange (h .ahead)
+lineInRange h expected (suc (suc zero)) = curveInRange (h .da)
+lineInRange h expected (suc (suc (suc zero))) = curveInRange (h .rt)
+lineInRange h expected (suc (suc (suc (suc i)))) = intervalInRange (interval h i)
 
 -- a line breaks no rule of a curve
 abbrev pub lineKeeps : Hour → ℕ → Bool
@@ -96,8 +96,8 @@ pub record FirstLine (test : ℕ → Bool) (last line : ℕ) : Type 0 where
   pub first : (j : ℕ) → j < line → test j ≡ true
 
 -- `line` is the first with a number outside its range: a block has three lines and one for each interval
-abbrev pub FirstOutOfRange : Hour → ℕ → Type 0
-FirstOutOfRange h = FirstLine (lineInRange h) (h .n + 3)
+abbrev pub FirstOutOfRange : Hour → Expected → ℕ → Type 0
+FirstOutOfRange h expected = FirstLine (lineInRange h expected) (h .n + 3)
 
 -- `line`, 2 or 3, is the first whose curve breaks a rule
 abbrev pub FirstCurveBroken : Hour → ℕ → Type 0
@@ -106,7 +106,8 @@ FirstCurveBroken h = FirstLine (lineKeeps h) 3
 -- an hour is expected, and the block says another
 pub record SaysAnotherHour (h : Hour) (expected : Expected) : Type 0 where
   pub hour : ℤ
-  pub asked : expected ≡ Says hour
+  pub hours : ℕ
+  pub asked : expected ≡ Says hour hours
   pub other : h .hour ≡ hour → ⊥
 
 -- ---- checks that find no fault
@@ -114,7 +115,7 @@ pub record SaysAnotherHour (h : Hour) (expected : Expected) : Type 0 where
 -- form, ranges, order and curves are as they must be
 pub record Lawful (h : Hour) (expected : Expected) : Type 0 where
   pub form : form h ≡ clear
-  pub range : range h ≡ clear
+  pub range : range h expected ≡ clear
   pub order : order h expected ≡ clear
   pub curves : curves h ≡ clear
 

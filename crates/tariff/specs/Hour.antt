@@ -13,7 +13,7 @@ use Rattle.tariff.specs.declared.Uol.the-variants.{Missing}
 use Rattle.tariff.specs.declared.Expected.{Expected}
 use Rattle.tariff.specs.declared.Expected.the-variants.{Any, Says}
 use Rattle.tariff.specs.Units.{kw, price, movePrice, seconds}
-use Rattle.tariff.specs.Sheet.{isHour, aheadInRange, curveInRange, intervalInRange, curveKeeps}
+use Rattle.tariff.specs.Sheet.{LONGEST-DAY, isHour, aheadInRange, curveInRange, intervalInRange, curveKeeps}
 use Rattle.tariff.specs.Curve.{Amount, known, none}
 use Rattle.tariff.specs.Reply.{Reply, FORM, RANGE, ORDER, CURVE, SECONDS, DERATE, REACH, Verdict, clear, unless, _then_, firstOf}
 use Rattle.tariff.specs.Outcome.{Outcome, gives, stops, firstStop, amount, sumBy, replyBy, rowBy}
@@ -57,16 +57,21 @@ interval h i = getD (h .iv) i blank
 unfoldable pub form : Hour → Verdict
 form h = unless (leb (h .da .n) 12) FORM 2 then unless (leb (h .rt .n) 12) FORM 3 then unless (leb (h .n) 30) FORM 34
 
-unfoldable pub range : Hour → Verdict
-range h =
-    unless (isHour (h .hour) && aheadInRange (h .ahead)) RANGE 1
+-- the hours of the day that a block stands in; one that stands in none may say any hour of the longest
+abbrev pub hoursAround : Expected → ℕ
+hoursAround Any = LONGEST-DAY
+hoursAround (Says hour hours) = hours
+
+unfoldable pub range : Hour → Expected → Verdict
+range h expected =
+    unless (isHour (hoursAround expected) (h .hour) && aheadInRange (h .ahead)) RANGE 1
     then unless (curveInRange (h .da)) RANGE 2
     then unless (curveInRange (h .rt)) RANGE 3
     then firstOf (λ i. unless (intervalInRange (interval h i)) RANGE (i + 4)) (h .n)
 
 unfoldable pub order : Hour → Expected → Verdict
 order h Any = clear
-order h (Says hour) = unless (eqZ (h .hour) hour) ORDER 1
+order h (Says hour hours) = unless (eqZ (h .hour) hour) ORDER 1
 
 unfoldable pub curves : Hour → Verdict
 curves h = unless (curveKeeps (h .da)) CURVE 2 then unless (curveKeeps (h .rt)) CURVE 3
@@ -107,7 +112,7 @@ hourSum h isExcluded = sumBy (outcomeAt h isExcluded) (h .n)
 
 -- faults 1 to 5
 abbrev pub blockFault : Hour → Expected → Verdict
-blockFault h expected = form h then range h then order h expected then curves h then secondsSum h
+blockFault h expected = form h then range h expected then order h expected then curves h then secondsSum h
 
 abbrev pub reply : Hour → Bool → Expected → (room : ℕ) → Reply
 reply h isExcluded expected = replyBy (blockFault h expected) (outcomeAt h isExcluded) (h .n)

@@ -42,9 +42,9 @@ curtailed h i = getD (h .iv) i blankCurtailed
 unfoldable pub importForm : ImportHour → Verdict
 importForm h = unless (leb (h .n) 30) FORM 32
 
-unfoldable pub importRange : ImportHour → Verdict
-importRange h =
-    unless (isHour (h .hour) && isCapacity (h .den .0) && isPrice (h .dec .0)) RANGE 1
+unfoldable pub importRange : (hours : ℕ) → ImportHour → Verdict
+importRange hours h =
+    unless (isHour hours (h .hour) && isCapacity (h .den .0) && isPrice (h .dec .0)) RANGE 1
     then firstOf (λ i. unless (curtailedInRange (curtailed h i)) RANGE (i + 2)) (h .n)
 
 unfoldable pub importOrder : ImportHour → ℕ → Verdict
@@ -53,9 +53,9 @@ importOrder h k = unless (eqZ (h .hour) (pos k)) ORDER 1
 unfoldable pub importSeconds : ImportHour → Verdict
 importSeconds h = unless (eqZ (sumTo (λ i. curtailed h i .s .0) (h .n)) (pos 3600)) SECONDS 0
 
--- the block at place k of the day
-abbrev pub importFault : ImportHour → ℕ → Verdict
-importFault h k = importForm h then importRange h then importOrder h k then importSeconds h
+-- the block at place k of a day of so many hours
+abbrev pub importFault : (hours : ℕ) → ImportHour → ℕ → Verdict
+importFault hours h k = importForm h then importRange hours h then importOrder h k then importSeconds h
 
 -- ---- an interval counts if the import is no CTS one, was cut, had a profile of at least its day-ahead schedule, and bid no more
 -- than the default

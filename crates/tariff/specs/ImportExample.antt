@@ -105,7 +105,7 @@ late-part = refl
 -- the reply to two hours behind first lines without a fault, and with nothing behind them
 pub replyOf : (ℕ → ImportHour) → ImportReply
 unfolding importReplyBy importDayFault importForm importRange curtailedInRange firstOf importOrder importSeconds importPart importSum importGrains counts maxℤ sumTo centsOf
-replyOf hour = importReplyBy (pos 17) (importDayFault clear (λ k. importFault (hour k) k) 2 false) (λ k. importPart (pos 0) (hour k)) 2
+replyOf hour = importReplyBy (pos 17) (importDayFault clear (λ k. importFault 24 (hour k) k) 2 false) (λ k. importPart (pos 0) (hour k)) 2
 
 abbrev twoHours : (first second : ImportHour) → ℕ → ImportHour
 twoHours first second zero = first

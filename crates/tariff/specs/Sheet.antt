@@ -6,7 +6,7 @@ use lib.ListN.{getD}
 use lib.IntN.{ℤ, pos, negℤ}
 use lib.Signed.{ltZ, leZ}
 use Rattle.exact.specs.Choice.{if_then_else_}
-use Rattle.exact.specs.Whole.{eqZ}
+use Rattle.exact.specs.Whole.{over, eqZ}
 use Rattle.tariff.specs.declared.Curve.{Curve}
 use Rattle.tariff.specs.declared.Uol.{Uol}
 use Rattle.tariff.specs.declared.Uol.the-variants.{Missing, At}
@@ -19,11 +19,32 @@ use Rattle.tariff.specs.Units.{kw, price}
 abbrev pub liesIn : ℤ → ℤ → ℤ → Bool
 liesIn low high z = leZ low z && leZ z high
 
+-- a day has 24 hours, and 23 or 25 where the clock changes
+abbrev pub USUAL-DAY : ℕ
+USUAL-DAY = 24
+
+abbrev pub SHORTEST-DAY : ℕ
+SHORTEST-DAY = 23
+
+abbrev pub LONGEST-DAY : ℕ
+LONGEST-DAY = 25
+
+abbrev pub isCount : ℤ → Bool
+isCount = liesIn (pos SHORTEST-DAY) (pos LONGEST-DAY)
+
+-- the hours of a day by the count that its text says; where no day has so many it is refused, and taken as a usual one
+abbrev pub hoursBy : (count : ℤ) → ℕ
+hoursBy count = if isCount count then over count else USUAL-DAY
+
 abbrev pub isSeconds : ℤ → Bool
 isSeconds = liesIn (pos 1) (pos 900)
 
-abbrev pub isHour : ℤ → Bool
-isHour = liesIn (pos 0) (pos 23)
+-- the last hour that a block may say on a day of so many hours: with 25 of them it is 24. With 23 it is still 23, which is then out of order
+abbrev pub lastHour : (hours : ℕ) → ℤ
+lastHour hours = if eqb hours LONGEST-DAY then pos 24 else pos 23
+
+abbrev pub isHour : (hours : ℕ) → ℤ → Bool
+isHour hours = liesIn (pos 0) (lastHour hours)
 
 -- energy, `ae`, `eop`, `lim` and curve points
 abbrev pub isPower : ℤ → Bool

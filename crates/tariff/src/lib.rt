@@ -80,10 +80,17 @@ pub struct Hour {
     pub iv: [Interval; 30],
 }
 
+// A day has 24 hours, and 23 or 25 where the clock changes. A text that says no count means the usual one.
+pub const USUAL_DAY: usize = 24;
+
+pub const LONGEST_DAY: usize = 25;
+
+pub const USUAL_COUNT: i64 = 24;
+
 // A day's marks: a digit of `cat` for each hour, and the exceptions 25.2.2.1 to 25.2.2.6 as words, hour 0 the lowest bit.
 pub struct Marks {
     pub rtc: bool,
-    pub cat: [u8; 24],
+    pub cat: [u8; LONGEST_DAY],
     pub x1: u32,
     pub x2: u32,
     pub x3: u32,
@@ -92,10 +99,10 @@ pub struct Marks {
     pub x6: u32,
 }
 
-// The hour that a block has to say: its place in a day, or any.
+// The hour that a block has to say: any, or its place in a day, and how many hours that day has.
 pub enum Expected {
     Any,
-    Says(i64),
+    Says(i64, usize),
 }
 
 // The check that refuses, and its place: a line of the block, or an interval from 1. Three have one place only.

@@ -1,4 +1,5 @@
 -- A number has an optional minus and one to seven digits, without leading zeros and without -0.
+use mathlib.Core.Bool.{Bool}
 use mathlib.Core.List.{List}
 use Prim.Native.Nat.{ℕ, zero, suc, _+_, _-_, _*_, _<_}
 use lib.Dec.{ltb, eqb}
@@ -16,6 +17,9 @@ NO-DIGIT = 10
 
 abbrev pub digitOf : ℕ → ℕ
 digitOf b = if ltb b ZERO then NO-DIGIT else (if ltb NINE b then NO-DIGIT else b - ZERO)
+
+abbrev pub isNumeral : ℕ → Bool
+isNumeral b = ltb (digitOf b) NO-DIGIT
 
 unfoldable pub digitAt : List ℕ → ℕ → ℕ
 digitAt s at = digitOf (byteAt s at)

@@ -5,6 +5,7 @@ use std::path::Path;
 use std::{fs, io};
 
 use library::archive::{self, Numbers};
+use second::day::HOURS;
 use second::hour::judge_block;
 use second::record::MOST_INTERVALS;
 use second::{Answer, Ask, Run, Way};
@@ -19,7 +20,7 @@ fn proved(block: &[u8], row: &mut [i64]) -> Option<i64> {
         grains: 0,
         cents: 0,
     };
-    let number = archive::block(block, false, -1, row, &mut numbers);
+    let number = archive::block(block, false, -1, HOURS as u64, row, &mut numbers);
     Some(numbers.cents).filter(|_| number == 0)
 }
 

@@ -11,12 +11,12 @@ use std::time::{Duration, Instant};
 
 use second::day::HOURS;
 
-use crate::sheets::Files;
+use crate::sheets::{Files, LONGEST};
 use crate::timing::{alternate, Growth, COUNTS};
 
 /// A program beside its second and beside `wc -l`, on the same files.
 pub struct Program {
-    /// Its name.
+    /// Its name, and which texts it has if not the usual ones.
     pub name: &'static str,
     /// How many bytes the first of its files has.
     pub bytes: u64,
@@ -44,12 +44,14 @@ pub fn run(program: &Path, arguments: &[&str], file: &Path) -> io::Result<()> {
 /// Measures the programs. One that is not built is an error, and not left out.
 pub fn measure(root: &Path, files: &Files) -> io::Result<Vec<Program>> {
     let mut programs = Vec::new();
-    for (name, second, hours, files) in [
-        ("hour", "hour2", 1, &files.blocks),
-        ("day", "day2", HOURS, &files.days),
+    for (name, program, hours, files) in [
+        ("`hour`", "hour", 1, &files.blocks),
+        ("`day`", "day", HOURS, &files.days),
+        ("`day`, 25 hours", "day", LONGEST, &files.long_days),
     ] {
-        let bin = root.join("target/bin").join(name);
-        let second = root.join("tests/second/target/release").join(second);
+        let bin = root.join("target/bin").join(program);
+        let second = root.join("tests/second/target/release");
+        let second = second.join(format!("{program}2"));
         for file in [&bin, &second] {
             if !file.is_file() {
                 return Err(io::Error::other(format!("no program {}", file.display())));

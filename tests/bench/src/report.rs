@@ -26,9 +26,10 @@ const HEAD: &str = "\
 
 `sh tests/bench/run` measures and writes this page. Ratios first: the absolute figures are this machine's.
 
-The sheets are days of a plant, every hour of 30 intervals with two curves of 12 steps, all paid. Everything goes over the same
-bytes in the same run, built for release and warmed, in turn and in several rounds; a figure is their median. The second program
-is the independent one of tests/second, `wc -l` a yardstick that only counts lines. No time is judged anywhere.
+The sheets are days of a plant, every hour of 30 intervals with two curves of 12 steps, all paid; of form 1, and where 25 hours
+are named of form 2, with the same 24 hours and one more. Everything goes over the same bytes in the same run, built for release
+and warmed, in turn and in several rounds; a figure is their median. The second program is the independent one of tests/second,
+`wc -l` a yardstick that only counts lines. No time is judged anywhere.
 ";
 
 /// A heading, a sentence, and the first lines of a table.
@@ -77,7 +78,7 @@ impl Report {
     /// Each thing that grows, and its name.
     fn all(&self) -> Vec<(String, &[Growth])> {
         let blocks = ("block call, sheets".to_string(), &self.blocks[..]);
-        let name = |p: &Program| format!("program `{}`, runs", p.name);
+        let name = |p: &Program| format!("program {}, runs", p.name);
         let programs = self.programs.iter();
         let programs = programs.map(|p| (name(p), &p.growth[..]));
         [blocks].into_iter().chain(programs).collect()
@@ -117,9 +118,9 @@ impl Report {
             let Program { name, hours, .. } = program;
             if let Some(last) = program.growth.last() {
                 let names = [
-                    format!("program `{name}`"),
-                    format!("second program's `{name}`"),
-                    format!("`wc -l` on the texts of `{name}`"),
+                    format!("program {name}"),
+                    format!("second program's {name}"),
+                    format!("`wc -l` on the texts of {name}"),
                 ];
                 rate(out, names, last, program.all_bytes as f64, *hours)?;
             }
@@ -163,7 +164,7 @@ impl Report {
             let shown = |most: Option<u64>| most.map_or("-".into(), |most| format!("{most} kB"));
             writeln!(
                 out,
-                "| `{name}` | {bytes} | {} |",
+                "| {name} | {bytes} | {} |",
                 memory.map(shown).join(" | ")
             )?;
         }

@@ -11,6 +11,9 @@ use second::day::HOURS;
 use second::record::MOST_INTERVALS;
 use second::{Header, HourRecord};
 
+/// Hours of the longest day.
+pub const LONGEST: usize = HOURS + 1;
+
 /// The seed of all sheets.
 const SEED: u64 = 1;
 
@@ -18,7 +21,9 @@ const SEED: u64 = 1;
 pub struct Sheets {
     /// The day sheets.
     pub days: Vec<Vec<u8>>,
-    /// Every hour block of the sheets, with its closing empty line.
+    /// Sheets of the longest day, each with an hour more than a day sheet.
+    pub long_days: Vec<Vec<u8>>,
+    /// Every hour block of the day sheets, with its closing empty line.
     pub blocks: Vec<Vec<u8>>,
 }
 
@@ -26,6 +31,8 @@ pub struct Sheets {
 pub struct Files {
     /// A file for each day.
     pub days: Vec<PathBuf>,
+    /// A file for each of the longest days.
+    pub long_days: Vec<PathBuf>,
     /// A file for each hour block.
     pub blocks: Vec<PathBuf>,
 }
@@ -33,20 +40,25 @@ pub struct Files {
 impl Sheets {
     /// So many sheets.
     pub fn new(count: usize) -> Self {
-        let header = Header::default().to_text();
+        let block = |index: usize, hour| full_block(&mut Rng::new(SEED, index as u64), hour);
+        let sheet = |header: &Header, blocks: &[Vec<u8>]| {
+            [header.to_text().into_bytes(), blocks.concat()].concat()
+        };
         let mut sheets = Sheets {
             days: Vec::new(),
+            long_days: Vec::new(),
             blocks: Vec::new(),
         };
         for day in 0..count {
-            let mut text = header.clone().into_bytes();
-            for hour in 0..HOURS {
-                let index = day * HOURS + hour;
-                let block = full_block(&mut Rng::new(SEED, index as u64), hour);
-                text.extend_from_slice(&block);
-                sheets.blocks.push(block);
-            }
-            sheets.days.push(text);
+            let hours = (0..HOURS).map(|hour| block(day * HOURS + hour, hour));
+            let mut blocks: Vec<Vec<u8>> = hours.collect();
+            sheets.days.push(sheet(&Header::default(), &blocks));
+            sheets.blocks.extend_from_slice(&blocks);
+            // The one more comes behind all blocks of the day sheets.
+            blocks.push(block(count * HOURS + day, HOURS));
+            sheets
+                .long_days
+                .push(sheet(&Header::counted(LONGEST), &blocks));
         }
         sheets
     }
@@ -75,6 +87,7 @@ impl Sheets {
         };
         Ok(Files {
             days: numbered("day", &self.days)?,
+            long_days: numbered("long-day", &self.long_days)?,
             blocks: numbered("hour", &self.blocks)?,
         })
     }

@@ -1,13 +1,15 @@
 //! Day sheets: how they are made.
 
-use second::day::{Marks, HOURS};
+use second::day::Marks;
+use second::text::{number, HOUR};
 use second::{day, Curve, DayAhead, Header, HourRecord, Interval};
 
-use crate::damage::{self, set_value, Sheet, NO_NUMBERS};
+use crate::damage::{self, set_value, Sheet};
 use crate::events;
+use crate::headers::{self, plain};
 use crate::hour;
 use crate::hours::{self, still};
-use crate::pieces::{self, each_hour};
+use crate::pieces::{self, any_said, count, each_hour, said};
 use crate::plan::{recipe, Program, Recipe};
 use crate::random::Rng;
 use crate::same::{self, Bond, Pair};
@@ -18,20 +20,28 @@ pub const PROGRAM: Program = Program {
     recipes: RECIPES,
     answer: day::program,
     wanted: events::of_day,
+    outcome,
+    outcomes: || pieces::outcomes(|said| says(plain(said).to_text().as_bytes())),
     ends_at_empty_line: false,
     pair,
 };
 
 const RECIPES: &[Recipe] = &[
-    recipe("days", 4, |rng, _| good(rng)),
+    recipe("days", 4, good),
     recipe("one mark", 6, one_mark),
-    recipe("many marks", 3, |rng, _| many_marks(rng)),
-    recipe("wrong headers", 4, wrong_header),
-    recipe("headers out of range", 2, header_out_of_range),
-    recipe("headers that end", 2, header_ends),
+    recipe("one mark in the last hours", 3, late_mark),
+    recipe("many marks", 3, many_marks),
+    recipe("wrong headers", 6, headers::wrong),
+    recipe("headers out of range", 3, headers::out_of_range),
+    recipe("headers that end", 3, headers::ends),
+    recipe("other layouts", 2, headers::other_layout),
+    recipe("wrong counts", 2, headers::wrong_count),
+    recipe("rows of other lengths", 3, headers::other_rows),
+    recipe("long rows", 2, headers::long_rows),
     recipe("any blocks", 8, any_blocks),
     recipe("blocks that end", 2, block_ends),
     recipe("blocks out of order", 3, out_of_order),
+    recipe("blocks by the count", 3, by_count),
     recipe("surplus", 2, surplus),
     recipe("damage", 5, |rng, _| damaged(rng)),
     recipe("noise", 1, |rng, _| {
@@ -39,26 +49,29 @@ const RECIPES: &[Recipe] = &[
     }),
 ];
 
-/// Lines of a header in front of the empty one.
-const HEADER_LINES: usize = 10;
+/// The form and the hours that a sheet says.
+fn says(text: &[u8]) -> String {
+    let text = String::from_utf8_lossy(text);
+    let lines = text.lines().take_while(|line| !line.starts_with("unit="));
+    lines.collect::<Vec<_>>().join(" ")
+}
 
-/// Rows of marks start at this line, counted from 0.
-const FIRST_ROW: usize = 3;
+fn outcome(text: &[u8], answer: &str) -> Option<String> {
+    let mut lines = answer.lines().rev();
+    let total = lines.next()?.strip_prefix("total=")?;
+    let last = lines.next()?.split_once(" refused=");
+    let outcome = match last.map(|(_, refusal)| refusal) {
+        Some(refusal @ ("1 at=1" | "2 at=1" | "3 at=1")) => format!("last hour refused={refusal}"),
+        None if total != "-" => "paid".to_string(),
+        None if !answer.contains("refused=") => "surplus".to_string(),
+        _ => return None,
+    };
+    Some(format!("{}: {outcome}", says(text)))
+}
 
 fn header(rng: &mut Rng) -> Header {
-    let mut header = Header {
-        unit: rng.pick(&[1, 9_999_999, 23_512]),
-        rtc: rng.between(0, 1),
-        ..Header::default()
-    };
-    let none = rng.pick(&[2, 8, 40]);
-    for category in &mut header.cat {
-        *category = match rng.below(none) {
-            0 => 0,
-            _ => rng.pick(&[1, 3, 4, 5]),
-        };
-    }
-    header
+    let said = any_said(rng);
+    headers::any(rng, said)
 }
 
 fn set_marks(rng: &mut Rng, marks: &mut Marks, once_in: usize) {
@@ -101,21 +114,38 @@ fn sheet(header: &Header, hours: &[HourRecord]) -> Vec<u8> {
     pieces::text(&header.to_text(), hours)
 }
 
-fn all_paying() -> Vec<HourRecord> {
-    each_hour(paying)
+fn all_paying(hours: usize) -> Vec<HourRecord> {
+    each_hour(hours, paying)
 }
 
-fn all_short(rng: &mut Rng) -> Vec<HourRecord> {
-    each_hour(|_| short(rng))
+/// The header over as many hours as it has, all paid but for its marks.
+pub fn paying_day(header: &Header) -> Vec<u8> {
+    sheet(header, &all_paying(header.cat.len()))
 }
 
-fn good(rng: &mut Rng) -> Vec<u8> {
-    let mut header = header(rng);
+fn all_short(rng: &mut Rng, hours: usize) -> Vec<HourRecord> {
+    each_hour(hours, |_| short(rng))
+}
+
+fn good(rng: &mut Rng, turn: usize) -> Vec<u8> {
+    let mut header = headers::any(rng, said(turn));
     for row in &mut header.x {
         set_marks(rng, row, 60);
     }
-    let hours = all_short(rng);
+    let hours = all_short(rng, header.cat.len());
     pieces::closed(rng, sheet(&header, &hours))
+}
+
+/// The mark of a row, 0 to 6: x4 to x6, no category, x1 to x3. And another one
+/// far away.
+fn mark(header: &mut Header, row: usize, hour: usize, other: usize) {
+    match row {
+        0..=2 => header.x[3 + row][hour] = 1,
+        3 => header.cat[hour] = 0,
+        _ => header.x[row - 4][hour] = 1,
+    }
+    let hours = header.cat.len();
+    header.x[other][(hour + 12) % hours] = 1;
 }
 
 /// Every mark in every hour, with and without RTC.
@@ -124,115 +154,43 @@ fn one_mark(_: &mut Rng, turn: usize) -> Vec<u8> {
         rtc: (turn % 2) as i64,
         ..Header::default()
     };
+    let hours = header.cat.len();
     // Hour by hour, but far apart from one turn to the next.
-    let hour = turn / 2 * 7 % HOURS;
-    match turn / 2 / HOURS % 7 {
-        0 => header.x[3][hour] = 1,
-        1 => header.x[4][hour] = 1,
-        2 => header.x[5][hour] = 1,
-        3 => header.cat[hour] = 0,
-        row => header.x[row - 4][hour] = 1,
-    }
-    let other = turn % 5;
-    header.x[other][(hour + 12) % HOURS] = 1;
-    sheet(&header, &all_paying())
+    let hour = turn / 2 * 7 % hours;
+    mark(&mut header, turn / 2 / hours % 7, hour, turn % 5);
+    paying_day(&header)
 }
 
-fn many_marks(rng: &mut Rng) -> Vec<u8> {
-    let mut header = header(rng);
+/// Marks in the last four hours of each count: those that reach two hours, with
+/// and without RTC, then all.
+fn late_mark(_: &mut Rng, turn: usize) -> Vec<u8> {
+    let mut header = plain(pieces::SAID[1 + turn % 3]);
+    let hour = header.cat.len() - 1 - turn / 9 % 4;
+    header.rtc = i64::from(turn / 36 % 2 == 0);
+    let row = match turn / 72 % 2 {
+        0 => turn / 3 % 3,
+        _ => 3 + turn / 3 % 4,
+    };
+    mark(&mut header, row, hour, turn % 5);
+    paying_day(&header)
+}
+
+fn many_marks(rng: &mut Rng, turn: usize) -> Vec<u8> {
+    let mut header = headers::any(rng, said(turn));
     let once_in = rng.pick(&[2, 8, 24]);
     for row in &mut header.x {
         set_marks(rng, row, once_in);
     }
-    sheet(&header, &all_paying())
-}
-
-/// Header lines that are absent, extra or not in form.
-fn wrong_header(rng: &mut Rng, turn: usize) -> Vec<u8> {
-    let mut sheet = Sheet::of(&sheet(&header(rng), &all_paying()));
-    let line = turn % (HEADER_LINES + 1);
-    let text = &mut sheet.lines[line];
-    match turn / (HEADER_LINES + 1) % 7 {
-        0 => drop(sheet.lines.remove(line)),
-        1 => {
-            let again = text.clone();
-            sheet.lines.insert(line, again);
-        }
-        2 => sheet.lines.insert(line, b"x=1".to_vec()),
-        3 if line < FIRST_ROW => {
-            let value = rng.pick(NO_NUMBERS);
-            set_value(text, 0, value.as_bytes());
-        }
-        3 | 4 if line >= FIRST_ROW => wrong_row(rng, text),
-        4 => text.insert(0, b'X'),
-        5 => text.push(rng.pick(b" \r0x")),
-        _ => sheet.lines.insert(line, Vec::new()),
-    }
-    sheet.text()
-}
-
-/// A row of marks of another length, or with a byte that is no digit.
-fn wrong_row(rng: &mut Rng, row: &mut Vec<u8>) {
-    let at = row.len().saturating_sub(1 + rng.below(HOURS));
-    match rng.below(4) {
-        0 => drop(row.pop()),
-        1 => row.push(b'1'),
-        2 => row.truncate(at),
-        _ => {
-            if let Some(byte) = row.get_mut(at) {
-                *byte = rng.pick(b" -+=ax/:\0\xff");
-            }
-        }
-    }
-}
-
-/// Header lines whose number or digit is not allowed.
-fn header_out_of_range(rng: &mut Rng, turn: usize) -> Vec<u8> {
-    let mut sheet = Sheet::of(&sheet(&header(rng), &all_paying()));
-    let line = turn % HEADER_LINES;
-    let text = &mut sheet.lines[line];
-    let numbers: [&[&str]; FIRST_ROW] = [
-        &["0", "2", "-1", "9999999"],
-        &["0", "-1", "-9999999"],
-        &["2", "-1", "17"],
-    ];
-    match numbers.get(line) {
-        Some(values) => {
-            let value = rng.pick(values);
-            set_value(text, 0, value.as_bytes());
-        }
-        None => {
-            let at = text.len() - 1 - rng.below(HOURS);
-            let digits: &[u8] = if line == FIRST_ROW {
-                b"26789"
-            } else {
-                b"23456789"
-            };
-            text[at] = rng.pick(digits);
-        }
-    }
-    if rng.once_in(3) {
-        // A fault of form comes first, wherever it stands.
-        let other = rng.below(HEADER_LINES + 1);
-        sheet.lines[other].push(b' ');
-    }
-    sheet.text()
-}
-
-/// Texts that end within the header.
-fn header_ends(rng: &mut Rng, turn: usize) -> Vec<u8> {
-    let text = header(rng).to_text();
-    let sheet = Sheet::of(text.as_bytes());
-    let line = turn % (HEADER_LINES + 1);
-    pieces::end_in_line(rng, sheet, line, turn / (HEADER_LINES + 1))
+    paying_day(&header)
 }
 
 /// Days of all the blocks that the program `hour` is tried with.
 fn any_blocks(rng: &mut Rng, turn: usize) -> Vec<u8> {
-    let mut text = Header::default().to_text().into_bytes();
+    let said = said(turn);
+    let mut text = plain(said).to_text().into_bytes();
     let seed = rng.bits();
-    for place in 0..HOURS {
-        let block = hour::PROGRAM.case(seed, turn * HOURS + place).text;
+    for place in 0..count(said) {
+        let block = hour::PROGRAM.case(seed, turn * count(said) + place).text;
         text.extend(for_place(rng, block, place));
     }
     text
@@ -248,8 +206,8 @@ fn for_place(rng: &mut Rng, block: Vec<u8>, place: usize) -> Vec<u8> {
     sheet.lines.truncate(40);
     let is_one = |line: &Vec<u8>| line.len() < 2000 && line.starts_with(b"hour=");
     if let Some(first) = sheet.lines.first_mut().filter(|line| is_one(line)) {
-        let said = second::text::number(&damage::pairs(first)[0][5..]);
-        if said.is_some_and(|hour| (0..24).contains(&hour)) && !rng.once_in(40) {
+        let said = number(&damage::pairs(first)[0][5..]);
+        if said.is_some_and(|hour| HOUR.missed(hour).is_none()) && !rng.once_in(40) {
             set_value(first, 0, place.to_string().as_bytes());
         }
     }
@@ -260,9 +218,9 @@ fn for_place(rng: &mut Rng, block: Vec<u8>, place: usize) -> Vec<u8> {
 
 /// Texts that end within a block, or behind one.
 fn block_ends(rng: &mut Rng, turn: usize) -> Vec<u8> {
-    let last = rng.below(HOURS);
-    let hours: Vec<HourRecord> = (0..last).map(paying).collect();
-    let mut text = sheet(&Header::default(), &hours);
+    let said = any_said(rng);
+    let last = rng.below(count(said));
+    let mut text = sheet(&plain(said), &all_paying(last));
     let count = if turn % 3 == 2 { 30 } else { 4 + rng.below(4) };
     let mut record = hours::any_of(rng, count);
     record.day_ahead.hour = last as i64;
@@ -281,23 +239,31 @@ fn block_ends(rng: &mut Rng, turn: usize) -> Vec<u8> {
 
 /// Blocks at other places than their hours say, absent, doubled and apart.
 fn out_of_order(rng: &mut Rng, turn: usize) -> Vec<u8> {
-    let header = Header::default();
-    let mut hours = all_paying();
+    let header = plain(any_said(rng));
+    let mut hours = all_paying(header.cat.len());
     let kind = turn % (pieces::MISPLACED + 1);
     if kind < pieces::MISPLACED {
         pieces::misplace(rng, &mut hours, kind);
         return sheet(&header, &hours);
     }
     // One more empty line is an empty block.
-    let before = &hours[..rng.below(HOURS)];
+    let before = &hours[..rng.below(hours.len())];
     let mut text = sheet(&header, &hours);
     text.insert(sheet(&header, before).len(), b'\n');
     text
 }
 
-/// Bytes behind the 24th block, or just none.
+/// More blocks than the header's count, fewer, or just as many.
+fn by_count(rng: &mut Rng, turn: usize) -> Vec<u8> {
+    let header = plain(pieces::SAID[turn % 4]);
+    let mut hours = all_paying(header.cat.len());
+    pieces::by_count(rng, &mut hours, turn / 4 % pieces::BY_COUNT);
+    pieces::closed(rng, sheet(&header, &hours))
+}
+
+/// Bytes behind the last block, or just none.
 fn surplus(rng: &mut Rng, turn: usize) -> Vec<u8> {
-    let mut text = sheet(&header(rng), &all_paying());
+    let mut text = paying_day(&header(rng));
     match turn % 6 {
         2 => text.extend(paying(0).to_text().into_bytes()),
         kind @ (0 | 1 | 3) => text.extend(pieces::surplus(rng, kind)),
@@ -313,10 +279,11 @@ fn surplus(rng: &mut Rng, turn: usize) -> Vec<u8> {
 
 fn damaged(rng: &mut Rng) -> Vec<u8> {
     let header = header(rng);
+    let hours = header.cat.len();
     let hours = if rng.once_in(2) {
-        all_paying()
+        all_paying(hours)
     } else {
-        all_short(rng)
+        all_short(rng, hours)
     };
     pieces::damaged(rng, sheet(&header, &hours))
 }
@@ -334,11 +301,14 @@ impl ToLine for Interval {
     }
 }
 
-/// Two days that differ in one paid hour, changed so that it pays the same.
+/// Two days that pay the same: of both forms, or with one paid hour changed.
 fn pair(rng: &mut Rng, turn: usize) -> Pair {
+    if turn % 4 == 3 {
+        return other_form(rng, turn);
+    }
     let header = header(rng);
-    let place = rng.below(HOURS);
-    let mut hours = all_paying();
+    let place = rng.below(header.cat.len());
+    let mut hours = all_paying(header.cat.len());
     let (mut record, mut change) = same::changed(rng, turn, true);
     while matches!(change.bond, Bond::Becomes(_) | Bond::Hour(_)) {
         let other = rng.below(99);
@@ -357,16 +327,73 @@ fn pair(rng: &mut Rng, turn: usize) -> Pair {
     }
 }
 
+/// A sheet of form 1, and the same bytes under a header that says 24 hours.
+fn other_form(rng: &mut Rng, turn: usize) -> Pair {
+    let turn = turn / 4 * 2;
+    let before = match turn % 8 {
+        0 => good(rng, turn),
+        2 => many_marks(rng, turn),
+        4 => by_count(rng, turn / 8 * 4),
+        _ => any_blocks(rng, turn),
+    };
+    let first = b"form=1\n";
+    let after = [b"form=2\nhours=24\n", &before[first.len()..]].concat();
+    Pair {
+        name: "other form",
+        before,
+        after,
+        bond: Bond::Same,
+    }
+}
+
 #[cfg(test)]
 mod tests {
     use super::*;
 
     #[test]
     fn hours_pay_by_their_number() {
-        let text = sheet(&Header::default(), &all_paying());
-        let hours: String = (0..24)
-            .map(|h| format!("hour={h} pay={}\n", h + 1))
-            .collect();
-        assert_eq!(second::day_text(&text), format!("{hours}total=300\n"));
+        for (said, total) in pieces::SAID.into_iter().zip([300, 276, 300, 325]) {
+            let hours: String = (0..count(said))
+                .map(|h| format!("hour={h} pay={}\n", h + 1))
+                .collect();
+            let answer = second::day_text(&paying_day(&plain(said)));
+            assert_eq!(answer, format!("{hours}total={total}\n"));
+        }
+    }
+
+    #[test]
+    fn late_marks_reach_every_last_hour_of_each_count() {
+        let mut seen = std::collections::BTreeSet::new();
+        for turn in 0..72 {
+            let text = late_mark(&mut Rng::new(1, 1), turn);
+            let answer = second::day_text(&text);
+            let hours: Vec<&str> = answer.lines().collect();
+            let unpaid = |back: &usize| hours[hours.len() - 1 - back].ends_with(" pay=0");
+            let last: Vec<usize> = (1..=6).filter(unpaid).collect();
+            seen.insert((hours.len() - 1, last));
+        }
+        for count in [23, 24, 25] {
+            for last in [
+                vec![1, 2, 3],
+                vec![1, 2, 3, 4],
+                vec![1, 2, 3, 4, 5],
+                vec![2, 3, 4, 5, 6],
+            ] {
+                assert!(seen.contains(&(count, last.clone())), "{count} {last:?}");
+            }
+        }
+    }
+
+    #[test]
+    fn what_came_of_the_hours() {
+        let text = paying_day(&Header::counted(23));
+        let outcome = |answer: &str| outcome(&text, answer);
+        let came = |what: &str| Some(format!("form=2 hours=23: {what}"));
+        assert_eq!(outcome("hour=22 pay=1\ntotal=1\n"), came("paid"));
+        assert_eq!(outcome("hour=22 pay=1\ntotal=-\n"), came("surplus"));
+        let refused = "hour=22 refused=3 at=1\ntotal=-\n";
+        assert_eq!(outcome(refused), came("last hour refused=3 at=1"));
+        assert_eq!(outcome("hour=22 refused=5 at=0\ntotal=-\n"), None);
+        assert_eq!(outcome("refused=1 at=1\n"), None);
     }
 }

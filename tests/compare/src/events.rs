@@ -2,10 +2,11 @@
 //! it. A comparison that never reached one of these has not looked there.
 
 use std::cmp::Ordering;
+use std::ops::RangeInclusive;
 
 use second::curve::CurveFault;
 use second::energy;
-use second::import::{ImportHourLine, ImportInterval, ImportLine};
+use second::import::{CountedImportLine, ImportHourLine, ImportInterval};
 use second::text::{Fault, Number, Side};
 use second::trace::{DerateKind, ImportTest, Nth, Spot};
 use second::{Check, Curve, DayAhead, Event, Interval, Run};
@@ -52,23 +53,32 @@ pub fn of_day() -> Vec<Event> {
     let of_day = |event: &Event| {
         matches!(
             event,
-            Event::Refused(Check::Order, Spot::DayAheadLine) | Event::Refused(_, Spot::Header(_))
+            Event::Refused(Check::Order, Spot::DayAheadLine)
+                | Event::Refused(_, Spot::Header(_) | Spot::CountedHeader(_))
         )
     };
     events.extend(Event::refusals().into_iter().filter(of_day));
     events.extend(Event::exclusions());
     events.extend([5, 6].map(Event::MarkWithoutRtc));
     events.push(Event::DaySurplus);
-    for line in 1..=10 {
-        let value = if line <= 3 {
-            Fault::Number
-        } else {
-            Fault::Marks
-        };
+    let of_count = |event: &Event| matches!(event, Event::DayHours(_));
+    events.extend(Event::counts().into_iter().filter(of_count));
+    events.extend(forms_of_header(1..=3, Spot::Header));
+    // Its first line is the other layout's, too.
+    events.extend(forms_of_header(2..=4, Spot::CountedHeader));
+    events
+}
+
+/// Lines of a header with a number, the seven rows of marks behind them, and
+/// the empty line.
+fn forms_of_header(numbers: RangeInclusive<usize>, spot: fn(usize) -> Spot) -> Vec<Event> {
+    let rows = numbers.end() + 1..numbers.end() + 8;
+    let mut events = malformed(spot(rows.end), &[Fault::Absent, Fault::Extra]);
+    let values = numbers.map(|line| (line, Fault::Number));
+    for (line, value) in values.chain(rows.map(|line| (line, Fault::Marks))) {
         let faults = [Fault::Absent, Fault::Unended, Fault::Key, value];
-        events.extend(malformed(Spot::Header(line), &faults));
+        events.extend(malformed(spot(line), &faults));
     }
-    events.extend(malformed(Spot::Header(11), &[Fault::Absent, Fault::Extra]));
     events
 }
 
@@ -76,9 +86,11 @@ pub fn of_day() -> Vec<Event> {
 pub fn of_import() -> Vec<Event> {
     let of_import = |event: &Event| match event {
         Event::Refused(_, spot) => is_of_import(*spot),
+        Event::ImportHours(_) => true,
         _ => false,
     };
-    let mut events: Vec<Event> = Event::refusals().into_iter().filter(of_import).collect();
+    let all = Event::refusals().into_iter().chain(Event::counts());
+    let mut events: Vec<Event> = all.filter(of_import).collect();
     let line = [Fault::Absent, Fault::Unended, Fault::Key, Fault::Number];
     events.extend(malformed(Spot::ImportLine, &line));
     events.extend(malformed(Spot::ImportHourLine, &line));
@@ -87,7 +99,7 @@ pub fn of_import() -> Vec<Event> {
     }
     events.extend(malformed(Spot::ImportGap, &[Fault::Absent, Fault::Extra]));
     events.extend(malformed(Spot::ImportExtraLine, &[Fault::Extra]));
-    events.extend(ranges(&ImportLine::default().numbers()));
+    events.extend(ranges(&CountedImportLine::default().numbers()));
     events.extend(ranges(&ImportHourLine::default().numbers()));
     events.extend(ranges(&ImportInterval::default().numbers()));
     events.extend(ImportTest::ALL.map(Event::Import));
@@ -100,7 +112,15 @@ pub fn is_counted(event: Event) -> bool {
     use Event::*;
     matches!(
         event,
-        Refused(..) | Limit(_) | Derate(_) | Lagging(_) | Excluded(_) | Import(_) | HourSum(_)
+        Refused(..)
+            | Limit(_)
+            | Derate(_)
+            | Lagging(_)
+            | Excluded(_)
+            | Import(_)
+            | HourSum(_)
+            | DayHours(_)
+            | ImportHours(_)
     )
 }
 
@@ -119,7 +139,7 @@ fn is_of_hour(spot: Spot) -> bool {
 }
 
 fn is_of_import(spot: Spot) -> bool {
-    !is_of_hour(spot) && !matches!(spot, Spot::Header(_))
+    !is_of_hour(spot) && !matches!(spot, Spot::Header(_) | Spot::CountedHeader(_))
 }
 
 fn malformed(spot: Spot, faults: &[Fault]) -> Vec<Event> {
@@ -243,9 +263,9 @@ mod tests {
     }
 
     #[test]
-    fn every_refusal_belongs_to_a_program_or_a_call() {
+    fn every_refusal_and_count_belongs_to_a_program_or_a_call() {
         let known = [of_block(), of_day(), of_import()].concat();
-        for event in Event::refusals() {
+        for event in [Event::refusals(), Event::counts()].concat() {
             assert!(known.contains(&event), "{event:?}");
         }
     }

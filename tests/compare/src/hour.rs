@@ -2,7 +2,7 @@
 
 use second::curve::MOST_STEPS;
 use second::record::{LINES_BEFORE, MOST_INTERVALS};
-use second::text::{Range, Side, ENERGY, POWER, PRICE};
+use second::text::{Range, Side, ENERGY, HOUR, POWER, PRICE};
 use second::{hour, Curve, DayAhead, HourRecord, Interval};
 
 use crate::damage::{self, set_value, with_surplus, Sheet, BROKEN_PAIRS, NO_NUMBERS};
@@ -18,6 +18,12 @@ pub const PROGRAM: Program = Program {
     recipes: RECIPES,
     answer: hour::program,
     wanted: events::of_hour,
+    outcome,
+    outcomes: || {
+        (HOUR.low..=HOUR.high)
+            .map(|hour| format!("hour={hour}"))
+            .collect()
+    },
     ends_at_empty_line: true,
     pair: same::of_hours,
 };
@@ -58,6 +64,12 @@ const RECIPES: &[Recipe] = &[
     recipe("long lines", 1, long),
     recipe("several faults", 3, several),
 ];
+
+/// The hour that a paid block says.
+fn outcome(_: &[u8], answer: &str) -> Option<String> {
+    let (hour, _) = answer.lines().next_back()?.split_once(" pay=")?;
+    Some(hour.to_string())
+}
 
 /// The block of a record, closed by an empty line or by the end of the text.
 pub fn block(rng: &mut Rng, record: &HourRecord) -> Vec<u8> {
@@ -120,7 +132,7 @@ fn largest(rng: &mut Rng) -> HourRecord {
     let curve = Curve::new(low, &[(high, -price)]);
     let mut record = HourRecord {
         day_ahead: DayAhead {
-            hour: rng.between(0, 23),
+            hour: rng.within(HOUR),
             en: rng.pick(&[low, high, 0, 0]),
             reg: sold,
             r1: sold,
@@ -170,7 +182,7 @@ fn around_a_cent(rng: &mut Rng) -> HourRecord {
     let bid = rng.between(0, 9);
     let mut record = HourRecord {
         day_ahead: DayAhead {
-            hour: rng.between(0, 23),
+            hour: rng.within(HOUR),
             r2: 1,
             b2: bid,
             ..DayAhead::default()
@@ -535,7 +547,7 @@ fn other_hour(rng: &mut Rng, turn: usize) -> Vec<u8> {
     let record = hours::any(rng);
     let mut sheet = Sheet::of(record.to_text().as_bytes());
     let hours = [
-        "0", "23", "24", "-1", "25", "99", "00", "023", "-0", "9999999", "12", "-",
+        "0", "23", "24", "-1", "25", "99", "00", "024", "-0", "9999999", "12", "-", "-24", "26",
     ];
     set_value(&mut sheet.lines[0], 0, hours[turn % hours.len()].as_bytes());
     block_of_sheet(rng, &sheet)
@@ -564,7 +576,7 @@ fn extra_lines(rng: &mut Rng, turn: usize) -> Vec<u8> {
         }
         _ => {
             // A number out of range before the extra line comes later.
-            set_value(&mut sheet.lines[0], 0, b"24");
+            set_value(&mut sheet.lines[0], 0, b"25");
             sheet.lines.push(more);
         }
     }

@@ -4,7 +4,8 @@
 //! - [`random`]: numbers from a seed;
 //! - [`hours`]: hours as records, and what they need a price for;
 //! - [`damage`]: what can happen to a text;
-//! - [`pieces`]: texts of a head and 24 blocks;
+//! - [`pieces`]: texts of a head and the blocks of a day;
+//! - [`headers`]: the headers of day sheets;
 //! - [`hour`], [`day`], [`import`]: the texts of each program, recipe by
 //!   recipe;
 //! - [`same`]: pairs of texts whose answers are bound to each other;
@@ -20,6 +21,7 @@ pub mod arguments;
 pub mod damage;
 pub mod day;
 pub mod events;
+pub mod headers;
 pub mod hour;
 pub mod hours;
 pub mod import;
@@ -43,8 +45,15 @@ mod tests {
     fn reaches(program: &plan::Program, most: usize) {
         for seed in [1, 2] {
             let mut run = Run::new(Way::Steps);
+            let mut outcomes = std::collections::BTreeSet::new();
             for index in 0..most {
-                (program.answer)(&program.case(seed, index).text, &mut run);
+                let text = program.case(seed, index).text;
+                let answer = (program.answer)(&text, &mut run);
+                outcomes.extend((program.outcome)(&text, &answer));
+            }
+            for wanted in (program.outcomes)() {
+                let had = outcomes.contains(&wanted);
+                assert!(had, "{} seed {seed}: {wanted}", program.name);
             }
             let missing = run.trace.missing((program.wanted)());
             assert!(

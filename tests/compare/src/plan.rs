@@ -35,6 +35,11 @@ pub struct Program {
     pub answer: fn(&[u8], &mut Run) -> String,
     /// Everything that its texts can reach.
     pub wanted: fn() -> Vec<Event>,
+    /// What a text says of its hours and what came of them, if its answer is
+    /// one of those that go by them.
+    pub outcome: fn(&[u8], &str) -> Option<String>,
+    /// All of these that its texts have to have.
+    pub outcomes: fn() -> Vec<String>,
     /// Whether it has its answer at the first empty line, whatever follows.
     pub ends_at_empty_line: bool,
     /// Two texts whose answers are bound to each other, for each turn.

@@ -64,6 +64,7 @@ impl Job<'_> {
             println!("stopped after {done} of {}", cases + pairs);
         } else if self.judge_events {
             tally.judge_events(&(self.program.wanted)());
+            tally.judge_outcomes(&(self.program.outcomes)());
         }
         tally.end();
         Ok(tally)
@@ -197,6 +198,9 @@ impl Asker<'_> {
         let case = self.job.program.case(self.job.seed, index);
         let answers = self.answers(case.text, index)?;
         tally.count(case.recipe, answers.second.contains("refused="));
+        if let Some(outcome) = (self.job.program.outcome)(&answers.text, &answers.second) {
+            tally.count_outcome(outcome);
+        }
         if answers.agree() {
             return Ok(None);
         }

@@ -3,7 +3,7 @@
 
 use second::curve::MOST_STEPS;
 use second::record::MOST_INTERVALS;
-use second::text::{BID, ENERGY, POWER, PRICE};
+use second::text::{BID, ENERGY, HOUR, POWER, PRICE};
 use second::{Curve, HourRecord, Interval};
 
 use crate::damage::with_surplus;
@@ -481,7 +481,7 @@ fn while_lagging(rng: &mut Rng, record: &HourRecord) -> Option<Change> {
 
 fn other_hour(rng: &mut Rng, record: &HourRecord) -> Option<Change> {
     let mut after = record.clone();
-    after.day_ahead.hour = rng.between(0, 23);
+    after.day_ahead.hour = rng.within(HOUR);
     let bond = Bond::Hour(after.day_ahead.hour);
     Some(Change {
         name: "other hour",

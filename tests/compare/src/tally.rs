@@ -24,6 +24,8 @@ pub struct Tally {
     pub trace: Trace,
     /// Of each recipe: texts without a refusal, and with one.
     recipes: BTreeMap<&'static str, [usize; 2]>,
+    /// What texts said of their hours, and what came of them.
+    outcomes: BTreeMap<String, usize>,
     failures: Vec<String>,
 }
 
@@ -37,6 +39,9 @@ impl Tally {
             sum[0] += counts[0];
             sum[1] += counts[1];
         }
+        for (outcome, count) in other.outcomes {
+            *self.outcomes.entry(outcome).or_default() += count;
+        }
         self.trace.add(&other.trace);
         self.failures.extend(other.failures);
     }
@@ -44,6 +49,11 @@ impl Tally {
     /// Counts a text of a recipe.
     pub fn count(&mut self, recipe: &'static str, refused: bool) {
         self.recipes.entry(recipe).or_default()[usize::from(refused)] += 1;
+    }
+
+    /// Counts what a text said of its hours, and what came of them.
+    pub fn count_outcome(&mut self, outcome: String) {
+        *self.outcomes.entry(outcome).or_default() += 1;
     }
 
     /// Counts something that was compared, with a line about it if it failed.
@@ -62,6 +72,9 @@ impl Tally {
         for (recipe, [paid, refused]) in &self.recipes {
             println!("{recipe}: {paid} without a refusal, {refused} with one");
         }
+        for (outcome, count) in &self.outcomes {
+            println!("came out {count} times: {outcome}");
+        }
         for (event, count) in self.trace.events() {
             if all_events || is_counted(event) {
                 println!("reached {count} times: {event:?}");
@@ -73,6 +86,13 @@ impl Tally {
     pub fn judge_events(&mut self, wanted: &[Event]) {
         let missing = self.trace.missing(wanted.iter().copied());
         self.judge("events", wanted.len(), &missing);
+    }
+
+    /// Judges whether the texts had all of these outcomes.
+    pub fn judge_outcomes(&mut self, wanted: &[String]) {
+        let missed = |outcome: &&String| !self.outcomes.contains_key(*outcome);
+        let missing: Vec<&String> = wanted.iter().filter(missed).collect();
+        self.judge("outcomes", wanted.len(), &missing);
     }
 
     /// Counts so many wanted things of a kind: those that were never reached

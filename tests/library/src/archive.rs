@@ -10,6 +10,7 @@ mod outside {
             block_length: usize,
             excluded: bool,
             expected: i64,
+            hours: u64,
             row: *mut i64,
             row_length: usize,
             place: *mut u64,
@@ -31,11 +32,13 @@ pub struct Numbers {
 }
 
 /// The block call: 0 where the block is paid, else the number of the check
-/// that refuses. `expected` below 0 stands for any hour.
+/// that refuses. `expected` below 0 stands for any hour, and `hours` is the
+/// count of the day's hours otherwise.
 pub fn block(
     block: &[u8],
     excluded: bool,
     expected: i64,
+    hours: u64,
     row: &mut [i64],
     numbers: &mut Numbers,
 ) -> u64 {
@@ -46,6 +49,7 @@ pub fn block(
             block.len(),
             excluded,
             expected,
+            hours,
             row.as_mut_ptr(),
             row.len(),
             &mut numbers.place,

@@ -12,7 +12,7 @@ use second::text::cut_block;
 use second::{Answer, Ask, HourRecord, Run};
 
 use crate::archive::{self, Numbers};
-use crate::reached::{Answered, Hour, Room};
+use crate::reached::{Answered, AtEnd, Hour, Room, COUNTS, LAST_HOURS};
 
 /// Entries on either side of a lent row that nobody may touch.
 const BESIDE: usize = 3;
@@ -26,11 +26,15 @@ pub struct Call {
     block: std::ops::Range<usize>,
     excluded: bool,
     expected: i64,
+    /// The count of the day's hours.
+    hours: u64,
     /// The row, with [`BESIDE`] entries on either side.
     entries: Vec<i64>,
     numbers: Numbers,
     room: Room,
     hour: Hour,
+    /// The hour that the block says.
+    said: i64,
 }
 
 /// What a call gave back, and everything that was lent as it then was.
@@ -47,9 +51,12 @@ pub struct Outcome {
 impl Call {
     /// The call of this index under this seed.
     pub fn new(seed: u64, index: usize) -> Self {
-        let case = hour::PROGRAM.case(seed, index);
+        let mut case = hour::PROGRAM.case(seed, index);
         // Another seed than the text's.
         let mut rng = Rng::new(seed ^ 0xca11, index as u64);
+        if rng.once_in(3) {
+            say(&mut case.text, rng.pick(&LAST_HOURS));
+        }
         let (said, intervals) = said(&case.text);
         let expected = match rng.below(5) {
             0 | 1 => rng.pick(&[-1, -1, -1, -24, i64::MIN]),
@@ -82,6 +89,7 @@ impl Call {
             block,
             excluded,
             expected,
+            hours: rng.pick(&COUNTS),
             entries,
             numbers,
             room: Room::of(length, intervals),
@@ -90,6 +98,7 @@ impl Call {
                 _ if expected == said => Hour::Own,
                 _ => Hour::Other,
             },
+            said,
         }
     }
 
@@ -105,6 +114,16 @@ impl Call {
             room: self.room,
             hour: self.hour,
             excluded: self.excluded,
+        }
+    }
+
+    /// The same, with the hour that the block says and the count of its day.
+    pub fn at_end(&self, number: u64) -> AtEnd {
+        AtEnd {
+            number,
+            says: self.said,
+            hour: self.hour,
+            hours: self.hours,
         }
     }
 
@@ -126,19 +145,33 @@ impl Call {
             entries,
         } = &mut outcome;
         let row = row_in(entries);
-        *number = archive::block(self.text(), self.excluded, self.expected, row, numbers);
+        let (excluded, expected) = (self.excluded, self.expected);
+        *number = archive::block(self.text(), excluded, expected, self.hours, row, numbers);
         outcome
+    }
+
+    /// What the second program is asked. Where no hour is expected the count
+    /// is not read; one that it cannot hold is as any other that no day has.
+    fn ask(&self) -> Ask {
+        let any = Ask {
+            excluded: self.excluded,
+            ..Ask::default()
+        };
+        match self.expected {
+            ..=-1 => any,
+            hour => Ask {
+                expected: Some(hour),
+                hours: self.hours.try_into().unwrap_or(i64::MAX),
+                ..any
+            },
+        }
     }
 
     /// The answer of the second program.
     pub fn of_second(&self, run: &mut Run) -> Outcome {
         let mut outcome = self.before();
-        let ask = Ask {
-            excluded: self.excluded,
-            expected: Some(self.expected).filter(|hour| *hour >= 0),
-        };
         let row = row_in(&mut outcome.entries);
-        match judge_block(self.text(), ask, row, run) {
+        match judge_block(self.text(), self.ask(), row, run) {
             Answer::Refused(refusal) => {
                 outcome.number = refusal.check.number().into();
                 outcome.numbers.place = refusal.place as u64;
@@ -156,9 +189,10 @@ impl Call {
 /// What is lent, as a failure's file shows it.
 impl fmt::Display for Call {
     fn fmt(&self, out: &mut fmt::Formatter<'_>) -> fmt::Result {
-        let (excluded, expected) = (self.excluded, self.expected);
+        let (excluded, expected, hours) = (self.excluded, self.expected, self.hours);
         let length = self.entries.len() - 2 * BESIDE;
         writeln!(out, "excluded: {excluded}, expected hour: {expected}")?;
+        writeln!(out, "a day of {hours} hours")?;
         writeln!(out, "{:?}", self.numbers)?;
         writeln!(out, "a row of {length} entries ({:?}),", self.room)?;
         writeln!(out, "shown with {BESIDE} more on either side:")?;
@@ -169,6 +203,16 @@ impl fmt::Display for Call {
 fn row_in(entries: &mut [i64]) -> &mut [i64] {
     let end = entries.len() - BESIDE;
     &mut entries[BESIDE..end]
+}
+
+/// Lets a block say this hour, if it says one.
+fn say(text: &mut Vec<u8>, hour: i64) {
+    const KEY: &[u8] = b"hour=";
+    if text.starts_with(KEY) {
+        let digits = text[KEY.len()..].iter().take_while(|b| b.is_ascii_digit());
+        let end = KEY.len() + digits.count();
+        text.splice(KEY.len()..end, hour.to_string().into_bytes());
+    }
 }
 
 /// The hour and the count of intervals that a block says; of a block that
@@ -185,7 +229,7 @@ fn said(text: &[u8]) -> (i64, usize) {
 }
 
 fn another_hour(rng: &mut Rng, said: i64) -> i64 {
-    let hour = rng.between(0, 23);
+    let hour = rng.between(0, 24);
     let near = [said + 1, (said - 1).max(0), hour, hour, 24, i64::MAX];
     match rng.pick(&near) {
         hour if hour == said => said + 1,

@@ -8,7 +8,7 @@ use compare::arguments::Arguments;
 use compare::events;
 use compare::tally::{shown, write_failure, Tally, ENOUGH};
 use library::call::{Call, Outcome};
-use library::reached::{Answered, Reached};
+use library::reached::{Answered, AtEnd, Reached};
 use second::{Run, Way};
 
 const USAGE: &str = "\
@@ -63,7 +63,7 @@ fn compare_all(arguments: &Arguments) -> io::Result<Tally> {
         let call = Call::new(arguments.seed, index);
         let (second, archive) = (call.of_second(&mut run), call.of_archive());
         tally.count(call.recipe, second.number != 0);
-        reached.note(call.answered(second.number));
+        reached.note(call.answered(second.number), call.at_end(second.number));
         let failure =
             (second != archive).then(|| write(arguments, index, &call, &second, &archive));
         tally.compared(failure.transpose()?);
@@ -80,6 +80,7 @@ fn compare_all(arguments: &Arguments) -> io::Result<Tally> {
     } else if arguments.only.is_none() {
         tally.judge_events(&events::of_block());
         tally.judge("answers", Answered::all().len(), &reached.missing());
+        tally.judge("last hours", AtEnd::all().len(), &reached.missing_at_end());
     }
     tally.end();
     Ok(tally)

@@ -1,7 +1,8 @@
 //! What the calls have to reach: every answer with every kind of row, hour
-//! and exclusion that can have it.
+//! and exclusion that can have it, and the last hours of a day with every
+//! count of its hours.
 
-use std::collections::BTreeMap;
+use std::collections::{BTreeMap, BTreeSet};
 
 /// The row that is lent, against the intervals of the block.
 #[derive(Clone, Copy, Debug, PartialEq, Eq, PartialOrd, Ord)]
@@ -110,20 +111,92 @@ impl Answered {
     }
 }
 
+/// The counts of a day's hours that are handed over: the three that days
+/// have, and others, among them one that is 25 in its lower half.
+pub const COUNTS: [u64; 9] = [
+    23,
+    24,
+    LONGEST_DAY,
+    0,
+    22,
+    26,
+    1 << 40,
+    (1 << 32) + LONGEST_DAY,
+    u64::MAX,
+];
+
+/// The hours of the longest day, which alone has an hour 24.
+const LONGEST_DAY: u64 = 25;
+
+/// The hours at the end of a day: one of every day or, of 23 hours, just past
+/// it; and one of the longest day alone.
+pub const LAST_HOURS: [i64; 2] = [23, 24];
+
+/// A last hour that a block says, and what becomes of it.
+#[derive(Clone, Copy, Debug, PartialEq, Eq, PartialOrd, Ord)]
+pub struct AtEnd {
+    /// 0 where the block is paid, else the number of the check.
+    pub number: u64,
+    /// The hour that the block says.
+    pub says: i64,
+    /// The expected hour.
+    pub hour: Hour,
+    /// The count of the day's hours.
+    pub hours: u64,
+}
+
+impl AtEnd {
+    /// Each hour with each count. The hour is judged by the count where one is
+    /// expected; a block that stands in no day may say any of the longest.
+    pub fn all() -> Vec<Self> {
+        let mut all = Vec::new();
+        for says in LAST_HOURS {
+            for hour in [Hour::Any, Hour::Own, Hour::Other] {
+                for hours in COUNTS {
+                    let in_range = says == 23 || hour == Hour::Any || hours == LONGEST_DAY;
+                    let number = match hour {
+                        _ if !in_range => 2,
+                        Hour::Other => 3,
+                        Hour::Any | Hour::Own => 0,
+                    };
+                    all.push(AtEnd {
+                        number,
+                        says,
+                        hour,
+                        hours,
+                    });
+                }
+            }
+        }
+        all
+    }
+}
+
 /// How often each answer was reached.
 #[derive(Default)]
-pub struct Reached(BTreeMap<Answered, u64>);
+pub struct Reached {
+    answers: BTreeMap<Answered, u64>,
+    at_end: BTreeSet<AtEnd>,
+}
 
 impl Reached {
     /// Counts an answer.
-    pub fn note(&mut self, answered: Answered) {
-        *self.0.entry(answered).or_insert(0) += 1;
+    pub fn note(&mut self, answered: Answered, at_end: AtEnd) {
+        *self.answers.entry(answered).or_insert(0) += 1;
+        self.at_end.insert(at_end);
     }
 
-    /// What was never reached.
+    /// The answers that were never reached.
     pub fn missing(&self) -> Vec<Answered> {
         let mut all = Answered::all();
-        all.retain(|answered| !self.0.contains_key(answered));
+        all.retain(|answered| !self.answers.contains_key(answered));
+        all
+    }
+
+    /// The last hours that were never reached.
+    pub fn missing_at_end(&self) -> Vec<AtEnd> {
+        let mut all = AtEnd::all();
+        all.retain(|at_end| !self.at_end.contains(at_end));
         all
     }
 
@@ -132,7 +205,7 @@ impl Reached {
         for number in 0..=8 {
             let count = |room: Room| -> String {
                 let of = |(a, _): &(&Answered, &u64)| a.number == number && a.room == room;
-                let sum: u64 = self.0.iter().filter(of).map(|(_, count)| count).sum();
+                let sum: u64 = self.answers.iter().filter(of).map(|(_, count)| count).sum();
                 format!("{room:?} {sum}")
             };
             println!("answer {number}: {}", Room::ALL.map(count).join(", "));
@@ -158,5 +231,13 @@ mod tests {
     fn room_is_asked_for_with_every_short_row() {
         let room = |answered: &Answered| answered.number == 8;
         assert_eq!(Answered::all().iter().filter(|a| room(a)).count(), 8);
+    }
+
+    #[test]
+    fn only_25_hours_let_an_expected_block_say_hour_24() {
+        let expected = |at: &&AtEnd| at.says == 24 && at.hour != Hour::Any;
+        for at_end in AtEnd::all().iter().filter(expected) {
+            assert_eq!(at_end.number != 2, at_end.hours == 25, "{at_end:?}");
+        }
     }
 }

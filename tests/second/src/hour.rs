@@ -5,18 +5,31 @@ use std::fmt::Write;
 use crate::interval;
 use crate::record::{HourRecord, MOST_INTERVALS};
 use crate::refusal::{Check, Refusal};
-use crate::text::{cut_block, Line, LineFault, Number};
+use crate::text::{cut_block, hour_in_day, Line, LineFault, Number, DAY_HOURS};
 use crate::trace::{Event, Spot, Trace};
 use crate::{cents, Run};
 
-/// What the caller knows of an hour. The default is what the program `hour`
-/// takes: eligible, and any hour of the day.
-#[derive(Clone, Copy, Debug, Default, PartialEq, Eq)]
+/// What the caller knows of an hour.
+#[derive(Clone, Copy, Debug, PartialEq, Eq)]
 pub struct Ask {
     /// Whether the hour is excluded: it is still checked, and pays nothing.
     pub excluded: bool,
     /// The hour that the block has to say, if one is expected.
     pub expected: Option<i64>,
+    /// How many hours the block's day has. Only 25 of them let it say hour 24;
+    /// all other numbers are alike.
+    pub hours: i64,
+}
+
+/// What the program `hour` takes: an eligible hour, any one of the longest day.
+impl Default for Ask {
+    fn default() -> Self {
+        Ask {
+            excluded: false,
+            expected: None,
+            hours: DAY_HOURS.high,
+        }
+    }
 }
 
 /// A paid hour.
@@ -116,7 +129,7 @@ fn malformed((line, fault): LineFault, trace: &mut Trace) -> Refusal {
 
 /// Checks 2 to 8 and the payment of an hour in good form.
 fn settle(record: &HourRecord, ask: Ask, row: &mut [i64], run: &mut Run) -> Result<Paid, Refusal> {
-    ranges(&record.lines_of_numbers(), &mut run.trace)?;
+    ranges_in_day(record.lines_of_numbers(), ask.hours, &mut run.trace)?;
     order(record.day_ahead.hour, ask.expected)?;
     curves(record, &mut run.trace)?;
     seconds(record)?;
@@ -133,6 +146,19 @@ fn settle(record: &HourRecord, ask: Ask, row: &mut [i64], run: &mut Run) -> Resu
         grains,
         cents: cents(grains),
     })
+}
+
+/// RANGE in a block of a day of so many hours. The hour is the first number of
+/// every block.
+pub(crate) fn ranges_in_day(
+    mut lines: Vec<Vec<Number>>,
+    hours: i64,
+    trace: &mut Trace,
+) -> Result<(), Refusal> {
+    if let Some(hour) = lines.iter_mut().flatten().next() {
+        hour.range = hour_in_day(hours);
+    }
+    ranges(&lines, trace)
 }
 
 /// RANGE, if a number lies outside: the first line with one. Lines count

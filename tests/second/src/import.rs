@@ -2,24 +2,48 @@
 
 use std::fmt;
 
-use crate::day::HOURS;
-use crate::hour::{order, ranges, whole_hour};
+use crate::header::HOURS;
+use crate::hour::{order, ranges, ranges_in_day, whole_hour};
 use crate::record::MOST_INTERVALS;
 use crate::refusal::{Check, Refusal};
 use crate::text::{
-    cut_block, read_at, sheet_line, Cut, Fault, Line, LineFault, HOUR, MARK, NAME, POWER, PRICE,
-    SECONDS,
+    cut_block, read_at, sheet_line, Cut, Fault, Line, LineFault, DAY_HOURS, HOUR, MARK, NAME,
+    POWER, PRICE, SECONDS,
 };
 use crate::trace::{Event, ImportTest, Spot, Trace};
 use crate::{cents, Run};
 
 sheet_line! {
-    /// The first line of an import.
+    /// The first line of an import, for a day of 24 hours.
     ImportLine {
         /// The import.
         import: i64 => NAME,
         /// Whether its proxy bus is enabled for coordinated scheduling.
         cts: i64 => MARK,
+    }
+}
+
+sheet_line! {
+    /// The first line of an import that says how many hours its day has.
+    CountedImportLine {
+        /// The import.
+        import: i64 => NAME,
+        /// Whether its proxy bus is enabled for coordinated scheduling.
+        cts: i64 => MARK,
+        /// Hours of the day.
+        hours: i64 => DAY_HOURS,
+    }
+}
+
+/// A line that says no hours stands for 24 of them.
+impl From<ImportLine> for CountedImportLine {
+    fn from(line: ImportLine) -> Self {
+        let ImportLine { import, cts } = line;
+        CountedImportLine {
+            import,
+            cts,
+            hours: HOURS as i64,
+        }
     }
 }
 
@@ -125,11 +149,12 @@ type Refused = (Option<usize>, Refusal);
 fn judge_day(text: &[u8], trace: &mut Trace) -> Result<ImportAnswer, Refused> {
     let head = cut_block(text);
     let line = read_head(&head, trace).map_err(|refusal| (None, refusal))?;
+    trace.note(Event::ImportHours(line.hours));
     let mut rest = head.rest;
     let mut grains = 0;
-    for place in 0..HOURS {
+    for (place, expected) in (0..line.hours).enumerate() {
         let block = cut_block(rest);
-        let hour = judge_hour(&block, place, trace);
+        let hour = judge_hour(&block, expected, line.hours, trace);
         let hour = hour.map_err(|refusal| (Some(place), refusal))?;
         // An hour that would cost the supplier takes nothing from the others.
         let sum = hour.grains(line.cts, trace);
@@ -148,7 +173,7 @@ fn judge_day(text: &[u8], trace: &mut Trace) -> Result<ImportAnswer, Refused> {
 }
 
 /// The first two lines, which are the import's header.
-fn read_head(head: &Cut<'_>, trace: &mut Trace) -> Result<ImportLine, Refusal> {
+fn read_head(head: &Cut<'_>, trace: &mut Trace) -> Result<CountedImportLine, Refusal> {
     let line = form_of_head(head).map_err(|(line, fault)| {
         let refusal = Refusal::new(Check::Form, line);
         trace.note(Event::Malformed(Spot::around_import(refusal), fault));
@@ -158,8 +183,8 @@ fn read_head(head: &Cut<'_>, trace: &mut Trace) -> Result<ImportLine, Refusal> {
     Ok(line)
 }
 
-fn form_of_head(head: &Cut<'_>) -> Result<ImportLine, LineFault> {
-    let line = read_at(&head.lines, 1, ImportLine::read)?;
+fn form_of_head(head: &Cut<'_>) -> Result<CountedImportLine, LineFault> {
+    let line = read_at(&head.lines, 1, read_first_line)?;
     if head.lines.len() > 1 {
         return Err((2, Fault::Extra));
     }
@@ -169,14 +194,27 @@ fn form_of_head(head: &Cut<'_>) -> Result<ImportLine, LineFault> {
     Ok(line)
 }
 
-fn judge_hour(block: &Cut<'_>, place: usize, trace: &mut Trace) -> Result<ImportHour, Refusal> {
+/// The hours may be left out, and nothing else.
+fn read_first_line(line: Line<'_>) -> Result<CountedImportLine, Fault> {
+    match ImportLine::read(line) {
+        Ok(line) => Ok(line.into()),
+        Err(_) => CountedImportLine::read(line),
+    }
+}
+
+fn judge_hour(
+    block: &Cut<'_>,
+    expected: i64,
+    hours: i64,
+    trace: &mut Trace,
+) -> Result<ImportHour, Refusal> {
     let hour = ImportHour::read(&block.lines).map_err(|(line, fault)| {
         let refusal = Refusal::new(Check::Form, line);
         trace.note(Event::Malformed(Spot::in_import_hour(refusal), fault));
         refusal
     })?;
-    ranges(&hour.lines_of_numbers(), trace)?;
-    order(hour.line.hour, i64::try_from(place).ok())?;
+    ranges_in_day(hour.lines_of_numbers(), hours, trace)?;
+    order(hour.line.hour, Some(expected))?;
     whole_hour(hour.intervals.iter().map(|interval| interval.s))?;
     Ok(hour)
 }

@@ -1,13 +1,14 @@
 //! The second program: it answers every text of document 01 (an hour block,
-//! a day sheet, a curtailed import) with every check, so that its answers can
-//! be laid beside those of the engine.
+//! a day sheet, a curtailed import), for days of 23, 24 and 25 hours, with
+//! every check, so that its answers can be laid beside those of the engine.
 //!
 //! The short way in is [`hour_text`], [`day_text`] and [`import_text`]: bytes
 //! in, the printed answer out. Behind them stand
 //!
 //! - [`hour`]: one hour, from a lent block or from an [`HourRecord`], with the
 //!   lent row of contributions;
-//! - [`day`]: the header, who is excluded, 24 hours and their total;
+//! - [`header`]: the header of a day and who is excluded by its marks;
+//! - [`day`]: the header, the day's hours and their total;
 //! - [`import`]: the curtailed import of one day;
 //! - [`trace`]: what an input reached, collected on the side.
 //!
@@ -21,7 +22,7 @@
 //! // A record, what is known of its hour, the lent row, and the trace.
 //! let mut run = Run::default();
 //! let mut row = [0; 30];
-//! let ask = Ask { excluded: false, expected: Some(0) };
+//! let ask = Ask { excluded: false, expected: Some(0), hours: 24 };
 //! let answer = hour::judge_record(&HourRecord::default(), ask, &mut row, &mut run);
 //! assert_eq!(answer, Answer::Refused(Refusal::new(Check::Seconds, 0)));
 //! assert!(run.trace.saw(Event::Refused(Check::Seconds, Spot::WholeHour)));
@@ -37,6 +38,7 @@ pub mod curve;
 pub mod day;
 pub mod derate;
 pub mod energy;
+pub mod header;
 pub mod hour;
 pub mod import;
 pub mod interval;

@@ -80,7 +80,7 @@ pub enum Fault {
     Number,
     /// A curve's `n` is not 0 to 12.
     Count,
-    /// A row of marks is not 24 digits.
+    /// A row of marks is not a digit for each hour of the day.
     Marks,
 }
 
@@ -242,8 +242,11 @@ impl Range {
 
 /// Seconds of an interval.
 pub const SECONDS: Range = Range::new(1, 900);
-/// Hour of the day.
-pub const HOUR: Range = Range::new(0, 23);
+/// Hours of a day: 24, one less when the clock goes forward, one more when it
+/// goes back.
+pub const DAY_HOURS: Range = Range::new(23, 25);
+/// Hour of the day; a block by itself may be one of the longest day.
+pub const HOUR: Range = Range::new(0, 24);
 /// Energy, actual or scheduled, and points of a curve: a withdrawal is below 0.
 pub const ENERGY: Range = Range::new(-2_000_000, 2_000_000);
 /// Power that cannot be negative: reserves, regulation, movement, limits.
@@ -256,6 +259,16 @@ pub const PRICE: Range = Range::new(-1_000_000, 1_000_000);
 pub const MARK: Range = Range::new(0, 1);
 /// The number of a unit or of an import.
 pub const NAME: Range = Range::new(1, 9_999_999);
+
+/// What a block may say as its hour in a day of so many hours. Hour 23 is in
+/// range in a day of 23 as well, where no place expects it.
+pub fn hour_in_day(hours: i64) -> Range {
+    if hours == DAY_HOURS.high {
+        HOUR
+    } else {
+        Range::new(0, 23)
+    }
+}
 
 /// A number of the sheet with the line and key that it stands under.
 #[derive(Clone, Copy, Debug, PartialEq, Eq)]
@@ -422,5 +435,13 @@ mod tests {
         assert_eq!(SECONDS.missed(1), None);
         assert_eq!(SECONDS.missed(900), None);
         assert_eq!(SECONDS.missed(901), Some(Side::Above));
+    }
+
+    #[test]
+    fn hour_24_stands_in_a_day_of_25_hours_alone() {
+        for hours in [i64::MIN, 0, 22, 23, 24, 26, i64::MAX] {
+            assert_eq!(hour_in_day(hours), Range::new(0, 23), "{hours}");
+        }
+        assert_eq!(hour_in_day(25), Range::new(0, 24));
     }
 }

@@ -8,7 +8,7 @@ use std::fmt;
 
 use crate::curve::CurveFault;
 use crate::refusal::{Check, Refusal};
-use crate::text::{Fault, Side};
+use crate::text::{Fault, Side, DAY_HOURS};
 
 /// Where an interval stands among the thirty that an hour can have.
 #[derive(Clone, Copy, Debug, PartialEq, Eq, PartialOrd, Ord, Hash)]
@@ -38,8 +38,13 @@ impl Nth {
 /// The kinds of places that a refusal can name.
 #[derive(Clone, Copy, Debug, PartialEq, Eq, PartialOrd, Ord, Hash)]
 pub enum Spot {
-    /// A line of a day's header, counted from 1; 11 is the empty one.
+    /// A line of a day's header, counted from 1; 11 is the empty one. Where
+    /// line 1 is not in form there is no telling which layout was meant, and
+    /// it counts here.
     Header(usize),
+    /// A line of a header that says its hours, which is line 2; 12 is the
+    /// empty one.
+    CountedHeader(usize),
     /// Line 1 of an hour block: the day-ahead schedules and bids.
     DayAheadLine,
     /// Line 2 of an hour block.
@@ -66,7 +71,7 @@ pub enum Spot {
     ImportExtraLine,
     /// An import's block as a whole.
     ImportWholeHour,
-    /// Behind the 24th block of an import.
+    /// Behind the last block of an import.
     ImportSurplus,
 }
 
@@ -257,8 +262,12 @@ pub enum Event {
     Movement,
     /// A paid hour's sum against 0.
     HourSum(Ordering),
-    /// Bytes follow a day's 24th block.
+    /// The hours of a day whose header is good.
+    DayHours(i64),
+    /// Bytes follow a day's last block.
     DaySurplus,
+    /// The hours of an import whose first two lines are good.
+    ImportHours(i64),
     /// Why an import's interval counts, or one reason why it does not.
     Import(ImportTest),
     /// An import hour's sum against 0.
@@ -276,6 +285,7 @@ impl Event {
             (Check::Seconds, Spot::WholeHour),
             (Check::Room, Spot::WholeHour),
             (Check::Form, Spot::Header(11)),
+            (Check::Form, Spot::CountedHeader(12)),
             (Check::Form, Spot::ImportGap),
             (Check::Form, Spot::ImportExtraLine),
             (Check::Order, Spot::ImportHourLine),
@@ -289,6 +299,7 @@ impl Event {
             spots.push((check, Spot::ImportLine));
             spots.push((check, Spot::ImportHourLine));
             spots.extend((1..=10).map(|line| (check, Spot::Header(line))));
+            spots.extend((2..=11).map(|line| (check, Spot::CountedHeader(line))));
             for nth in Nth::ALL {
                 spots.push((check, Spot::IntervalLine(nth)));
                 spots.push((check, Spot::ImportIntervalLine(nth)));
@@ -310,6 +321,13 @@ impl Event {
             reasons.extend((-2..=2).map(|hours| Reason::Spread(mark, hours)));
         }
         reasons.into_iter().map(Event::Excluded).collect()
+    }
+
+    /// Every count of hours that a day or an import can have.
+    pub fn counts() -> Vec<Event> {
+        let counts = DAY_HOURS.low..=DAY_HOURS.high;
+        let events = |hours| [Event::DayHours(hours), Event::ImportHours(hours)];
+        counts.flat_map(events).collect()
     }
 
     /// Every rule for LL and UL.

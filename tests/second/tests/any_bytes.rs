@@ -36,7 +36,8 @@ fn is_day_answer(text: &str) -> bool {
     let is_hour =
         |line: &&str| is_line(line, &["hour", "pay"]) || is_line(line, &["hour", "refused", "at"]);
     let total = lines.last().is_some_and(|line| is_line(line, &["total"]));
-    lines.len() == 25 && total && lines[..24].iter().all(is_hour)
+    let hours = lines.len() - 1;
+    (23..=25).contains(&hours) && total && lines[..hours].iter().all(is_hour)
 }
 
 fn is_import_answer(text: &str) -> bool {
@@ -117,14 +118,19 @@ fn changed_hours() {
 #[test]
 fn changed_days_and_imports() {
     let mut numbers = Numbers(11);
-    let day = day_of(&Header::default(), &one_cent_hours());
-    let import = import_of(7, 0, &one_cent_imports());
-    for _ in 0..300 {
+    let mut days = vec![day_of(&Header::default(), &one_cent_hours())];
+    let mut imports = vec![import_of(7, 0, &one_cent_imports())];
+    for hours in 23..=25 {
+        days.push(counted_day(hours));
+        imports.push(counted_import(hours as i64));
+    }
+    for (day, import) in (0..300).flat_map(|_| days.iter().zip(&imports)) {
         ask_all(&changed(day.as_bytes(), &mut numbers));
         ask_all(&changed(import.as_bytes(), &mut numbers));
         // Near the start, so that headers are met as often as blocks.
-        let mut near = changed(&day.as_bytes()[..400], &mut numbers);
-        near.extend(&day.as_bytes()[400..]);
-        ask_all(&near);
+        for (text, near) in [(day, 400), (import, 40)] {
+            let (head, rest) = text.as_bytes().split_at(near);
+            ask_all(&[&changed(head, &mut numbers), rest].concat());
+        }
     }
 }

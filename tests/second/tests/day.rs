@@ -251,7 +251,7 @@ fn lines_of_a_header_in_another_form() {
 #[test]
 fn ranges_of_a_header() {
     let text = good();
-    for value in ["0", "2", "-1", "11", "9999999"] {
+    for value in ["0", "3", "-2", "-1", "11", "22", "9999999"] {
         header_refused(&with_value(&text, 1, "form", value), 2, 1);
     }
     for value in ["0", "-1", "-9999999"] {
@@ -282,7 +282,7 @@ fn ranges_of_a_header() {
 
 #[test]
 fn form_of_a_header_comes_before_its_range() {
-    let text = with_value(&good(), 1, "form", "2");
+    let text = with_value(&good(), 1, "form", "3");
     header_refused(&text, 2, 1);
     header_refused(&with_value(&text, 10, "x6", "0"), 1, 10);
     header_refused(&without_line(&text, 11), 1, 11);

@@ -82,7 +82,7 @@ fn a_block_of_few_lines() {
     refuses(&format!("{}\n{}", lines[0], lines[1]), 1, 2);
     // Checks 1 to 4 come before the missing intervals.
     let three = lines[..3].concat();
-    refuses(&with_value(&three, 1, "hour", "24"), 2, 1);
+    refuses(&with_value(&three, 1, "hour", "25"), 2, 1);
     refuses(&with_value(&three, 3, "rt", "60000"), 4, 3);
 }
 
@@ -254,7 +254,7 @@ fn twelve_steps() {
 
 #[test]
 fn form_comes_before_range_and_range_before_the_rest() {
-    let range_first = with_value(WORKED, 1, "hour", "24");
+    let range_first = with_value(WORKED, 1, "hour", "25");
     refuses(&range_first, 2, 1);
     refuses(&with_value(&range_first, 7, "bmv", "07"), 1, 7);
     let range_last = with_value(WORKED, 7, "bmv", "-1");
@@ -319,11 +319,11 @@ fn a_stretch_is_asked_to_its_last_kilowatt() {
 
 #[test]
 fn the_hour_is_what_the_block_says() {
-    for hour in [0, 9, 23] {
+    for hour in [0, 9, 23, 24] {
         let text = with_value(WORKED, 1, "hour", &hour.to_string());
         assert!(print(&text).ends_with(&format!("hour={hour} pay=25250\n")));
     }
-    refuses(&with_value(WORKED, 1, "hour", "24"), 2, 1);
+    refuses(&with_value(WORKED, 1, "hour", "25"), 2, 1);
 }
 
 #[test]
@@ -338,7 +338,11 @@ fn a_block_is_read_up_to_its_first_empty_line() {
 
 #[test]
 fn a_lent_block_with_a_lent_row() {
-    let ask = |excluded, expected| Ask { excluded, expected };
+    let ask = |excluded, expected| Ask {
+        excluded,
+        expected,
+        hours: 24,
+    };
     let mut row = [5; 6];
     let judge = |text: &str, ask, row: &mut [i64]| {
         hour::judge_block(text.as_bytes(), ask, row, &mut Run::default())

@@ -82,7 +82,7 @@ fn refused_headers(run: &mut Run) {
         day::judge(with_line(&text, line, "x").as_bytes(), run);
     }
     day::judge(without_line(&text, 11).as_bytes(), run);
-    day::judge(with_value(&text, 1, "form", "2").as_bytes(), run);
+    day::judge(with_value(&text, 1, "form", "3").as_bytes(), run);
     day::judge(with_value(&text, 2, "unit", "0").as_bytes(), run);
     day::judge(with_value(&text, 3, "rtc", "2").as_bytes(), run);
     for (i, key) in ["cat", "x1", "x2", "x3", "x4", "x5", "x6"]
@@ -93,6 +93,22 @@ fn refused_headers(run: &mut Run) {
             with_value(&text, 4 + i, key, &"2".repeat(24)).as_bytes(),
             run,
         );
+    }
+}
+
+fn refused_counted_headers(run: &mut Run) {
+    let text = counted_day(25);
+    for line in 2..=11 {
+        day::judge(with_line(&text, line, "x").as_bytes(), run);
+    }
+    day::judge(without_line(&text, 12).as_bytes(), run);
+    for (line, key) in [(2, "hours"), (3, "unit"), (4, "rtc")] {
+        day::judge(with_value(&text, line, key, "-1").as_bytes(), run);
+    }
+    let rows = ["cat", "x1", "x2", "x3", "x4", "x5", "x6"];
+    for (i, key) in rows.into_iter().enumerate() {
+        let twos = with_value(&text, 5 + i, key, &"2".repeat(25));
+        day::judge(twos.as_bytes(), run);
     }
 }
 
@@ -128,6 +144,7 @@ fn every_refusal_at_every_kind_of_place() {
     let mut run = Run::default();
     refused_hours(&mut run);
     refused_headers(&mut run);
+    refused_counted_headers(&mut run);
     refused_imports(&mut run);
     assert_eq!(run.trace.missing(Event::refusals()), []);
     // And no refusal at a place where there can be none.
@@ -137,6 +154,26 @@ fn every_refusal_at_every_kind_of_place() {
             assert!(possible.contains(&event), "{event:?}");
         }
     }
+}
+
+#[test]
+fn every_count_of_hours() {
+    let mut run = Run::default();
+    for hours in 23..=25 {
+        day::judge(counted_day(hours).as_bytes(), &mut run);
+        import::judge(counted_import(hours as i64).as_bytes(), &mut run);
+    }
+    assert_eq!(run.trace.missing(Event::counts()), []);
+    // A sheet that does not say them has 24.
+    day::judge(Header::default().to_text().as_bytes(), &mut run);
+    import::judge(import_of(7, 0, &[]).as_bytes(), &mut run);
+    assert_eq!(run.trace.count(Event::DayHours(24)), 2);
+    assert_eq!(run.trace.count(Event::ImportHours(24)), 2);
+    // A header that is refused has none.
+    day::judge(Header::counted(26).to_text().as_bytes(), &mut run);
+    import::judge(counted_import(26).as_bytes(), &mut run);
+    assert!(!run.trace.saw(Event::DayHours(26)));
+    assert!(!run.trace.saw(Event::ImportHours(26)));
 }
 
 #[test]

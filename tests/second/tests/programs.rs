@@ -68,6 +68,22 @@ fn day_and_import_print_their_totals() {
 }
 
 #[test]
+fn days_on_which_the_clock_changes() {
+    let answer = WORKED_ANSWER.replace("hour=14", "hour=24");
+    prints(HOUR, &with_value(WORKED, 1, "hour", "24"), &answer);
+    for hours in [23, 25] {
+        let lines = (0..hours).map(|hour| format!("hour={hour} pay=1\n"));
+        let lines: String = lines.collect();
+        prints(DAY, &counted_day(hours), &format!("{lines}total={hours}\n"));
+        let answer = format!("import=7 pay={hours}\n");
+        prints(IMPORT, &counted_import(hours as i64), &answer);
+    }
+    let header = Header::counted(26).to_text();
+    prints(DAY, &header, "refused=2 at=2\n");
+    prints(IMPORT, &counted_import(26), "refused=2 hour=- at=1\n");
+}
+
+#[test]
 fn hour_does_not_wait_for_what_follows() {
     let mut child = start(HOUR, &[]);
     let mut stdin = child.stdin.take().expect("a pipe");

@@ -77,6 +77,7 @@ fn an_excluded_hour_pays_nothing() {
     let ask = Ask {
         excluded: true,
         expected: Some(5),
+        hours: 24,
     };
     let (answer, row) = judged(&one_cent_hour(5), ask);
     assert_eq!(answer.cents(), Some(0));
@@ -92,6 +93,7 @@ fn an_excluded_hour_goes_through_checks_1_to_5() {
     let ask = Ask {
         excluded: true,
         expected: Some(5),
+        hours: 24,
     };
     let mut form = one_cent_hour(5);
     form.count = 31;
@@ -170,7 +172,7 @@ fn fields() -> Vec<Field> {
     const E: i64 = 2_000_000;
     const P: i64 = 1_000_000;
     vec![
-        (1, 0, 23, |r, v| r.day_ahead.hour = v),
+        (1, 0, 24, |r, v| r.day_ahead.hour = v),
         (1, -E, E, |r, v| r.day_ahead.en = v),
         (1, 0, E, |r, v| r.day_ahead.reg = v),
         (1, 0, E, |r, v| r.day_ahead.r1 = v),
@@ -266,6 +268,7 @@ fn any_number_in_any_field_has_an_answer() {
         let ask = Ask {
             excluded: true,
             expected: Some(wild),
+            hours: wild,
         };
         assert_eq!(refused(&record, ask), (2, 1));
     }
@@ -277,6 +280,7 @@ fn order_stands_between_range_and_curve() {
     let ask = Ask {
         excluded: false,
         expected: Some(5),
+        hours: 24,
     };
     let mut record = one_cent_hour(6);
     record.da = Curve::new(7, &[]);
@@ -284,6 +288,33 @@ fn order_stands_between_range_and_curve() {
     assert_eq!(refused(&record, ask), (3, 1));
     record.intervals[3].s = 901;
     assert_eq!(refused(&record, ask), (2, 7));
+}
+
+#[test]
+fn hour_24_is_in_range_with_25_hours_alone() {
+    let ask = |expected, hours| Ask {
+        excluded: false,
+        expected,
+        hours,
+    };
+    for hours in [i64::MIN, -25, 0, 22, 23, 24, 26, i64::MAX] {
+        for expected in [None, Some(0), Some(24)] {
+            assert_eq!(refused(&one_cent_hour(24), ask(expected, hours)), (2, 1));
+        }
+        assert_eq!(refused(&one_cent_hour(23), ask(Some(0), hours)), (3, 1));
+        let (answer, _) = judged(&one_cent_hour(23), ask(Some(23), hours));
+        assert_eq!(answer.cents(), Some(1));
+    }
+    let (answer, _) = judged(&one_cent_hour(24), ask(Some(24), 25));
+    assert_eq!(answer.cents(), Some(1));
+    assert_eq!(refused(&one_cent_hour(24), ask(Some(0), 25)), (3, 1));
+    assert_eq!(refused(&one_cent_hour(25), ask(Some(25), 25)), (2, 1));
+    assert_eq!(judged(&one_cent_hour(24), eligible()).0.cents(), Some(1));
+    // It is the first number of the block, so its line is the one named.
+    let mut record = one_cent_hour(24);
+    record.intervals[0].s = 901;
+    assert_eq!(refused(&record, ask(Some(24), 24)), (2, 1));
+    assert_eq!(refused(&record, ask(Some(24), 25)), (2, 4));
 }
 
 #[test]
@@ -308,7 +339,7 @@ fn a_record_and_its_block_have_the_same_answer() {
     let mut numbers = Numbers(3);
     let fields = fields();
     for _ in 0..3000 {
-        let mut record = two_steps(numbers.between(0, 23));
+        let mut record = two_steps(numbers.between(0, 24));
         for _ in 0..numbers.below(6) {
             let (_, low, high, set) = fields[numbers.below(fields.len() as u64) as usize];
             let (low, high) = (low.max(-300), high.min(300));
@@ -317,6 +348,7 @@ fn a_record_and_its_block_have_the_same_answer() {
         let ask = Ask {
             excluded: numbers.below(4) == 0,
             expected: (numbers.below(4) == 0).then_some(record.day_ahead.hour % 20),
+            hours: numbers.between(23, 25),
         };
         let by_record = judged(&record, ask);
         let mut row = vec![-7; 32];

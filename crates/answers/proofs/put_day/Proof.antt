@@ -1,6 +1,7 @@
 -- `put_day` writes a refused header's refusal, or the hours and the total.
 use mathlib.Core.Path.{sym, ap}
 use borrow.Author.Needs.{needs}
+use lib.ListN.{take}
 use Rattle.tariff.specs.declared.Found.{Found}
 use Rattle.tariff.specs.Reply.{shown}
 use Rattle.tariff.specs.Total.{toldTotal, toldAll}
@@ -14,7 +15,7 @@ refusal c =
     let at-header = c .before .before .before .before .before in
     let start = at-header .before .before .before in
     let a = start .args in
-    put-as (ap (λ (f : Found). dayLines (shown f) (toldAll (a .hours)) (toldTotal (a .total))) (sym (at-header .header .given .1))) (c .before .before .put-refusal .ensures)
+    put-as (ap (λ (f : Found). dayLines (shown f) (take (a .count) (toldAll (a .hours))) (toldTotal (a .total))) (sym (at-header .header .given .1))) (c .before .before .put-refusal .ensures)
 
 lines : tie.Need-returns-2
 lines c =
@@ -23,7 +24,7 @@ lines c =
     let start = at-enum-told .before .before .before in
     let a = start .args in
     put-as
-    (ap (λ (f : Found). dayLines (shown f) (toldAll (a .hours)) (toldTotal (a .total))) (sym (at-enum-told .enum-told .given .1)))
+    (ap (λ (f : Found). dayLines (shown f) (take (a .count) (toldAll (a .hours))) (toldTotal (a .total))) (sym (at-enum-told .enum-told .given .1)))
     (put-then (at-put-hours .put-hours .ensures) (c .before .before .put-total .ensures))
 
 pub put-day-spec : {M : Type 1} → statement M

@@ -3,6 +3,7 @@ use mathlib.Core.Path.{_≡_}
 use borrow.Author.Needs.{needs}
 use Rattle.tariff.specs.Reply.{clear}
 use Rattle.tariff.specs.Hour.{form, range, order, curves}
+use Rattle.tariff.proofs.Ranges.{range-says, interval-fits}
 use Rattle.tariff.proofs.Answers.{found-told}
 use Rattle.checks.proofs.block_fault.Statement.{statement}
 use Rattle.checks.proofs.block_fault.Tie as tie
@@ -16,7 +17,7 @@ formed c = found-told (c .before .before .form-fault .ensures) (c .enum-told .gi
 returns-2 : tie.Need-returns-2
 returns-2 c = rw (formed (c .before .before .before .before), found-told (c .before .before .before .range-fault .ensures) (c .before .range .given .1))
 
-ranged : (c : tie.After-enum-told2) → range (c .before .before .before .before .before .before .args .h) ≡ clear
+ranged : (c : tie.After-enum-told2) → range (c .before .before .before .before .before .before .args .h) (c .before .before .before .before .before .before .args .expected) ≡ clear
 ranged c = found-told (c .before .before .range-fault .ensures) (c .enum-told2 .given .1)
 
 returns-3 : tie.Need-returns-3
@@ -47,7 +48,7 @@ seconds-fault-requires : tie.Need-seconds-fault-requires
 seconds-fault-requires c κs =
     let ranged-at = c .before .before .before .before .before .before in
     let formed-at = ranged-at .before .before .before in
-    (formed formed-at, ranged ranged-at)
+    (formed formed-at, λ i u. interval-fits _ (range-says _ _ (ranged ranged-at) .4 i u) .s)
 
 returns-5 : tie.Need-returns-5
 returns-5 c =

@@ -3,6 +3,7 @@ use mathlib.Core.Path.{_≡_}
 use borrow.Author.Needs.{needs}
 use Rattle.tariff.specs.Reply.{clear}
 use Rattle.tariff.specs.Import.{importForm, importRange, importOrder}
+use Rattle.tariff.proofs.ImportRanges.{import-range-says}
 use Rattle.tariff.proofs.Answers.{found-told}
 use Rattle.checks.proofs.import_fault.Statement.{statement}
 use Rattle.checks.proofs.import_fault.Tie as tie
@@ -16,7 +17,7 @@ formed c = found-told (c .before .before .form-fault .ensures) (c .enum-told .gi
 returns-2 : tie.Need-returns-2
 returns-2 c = rw (formed (c .before .before .before .before), found-told (c .before .before .before .range-fault .ensures) (c .before .range .given .1))
 
-ranged : (c : tie.After-enum-told2) → importRange (c .before .before .before .before .before .before .args .h) ≡ clear
+ranged : (c : tie.After-enum-told2) → importRange (c .before .before .before .before .before .before .args .hours) (c .before .before .before .before .before .before .args .h) ≡ clear
 ranged c = found-told (c .before .before .range-fault .ensures) (c .enum-told2 .given .1)
 
 returns-3 : tie.Need-returns-3
@@ -33,7 +34,7 @@ seconds-fault-requires : tie.Need-seconds-fault-requires
 seconds-fault-requires c κs =
     let ranged-at = c .before .before .before in
     let formed-at = ranged-at .before .before .before in
-    (formed formed-at, ranged ranged-at)
+    (formed formed-at, λ i u. import-range-says _ _ (ranged ranged-at) .1 i u .s)
 
 returns-4 : tie.Need-returns-4
 returns-4 c =

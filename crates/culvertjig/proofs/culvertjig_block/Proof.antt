@@ -1,6 +1,7 @@
 -- `culvertjig_block` meets its contract: it hands on the answer of the block call, a number for each part of it.
 use mathlib.Core.Path.{_≡_, ap, _∙_}
 use borrow.Author.Needs.{needs}
+use lib.IntN.{ℤ}
 use Rattle.exact.proofs.Calls.{handed}
 use Rattle.tariff.specs.declared.Answer.{Answer}
 use Rattle.tariff.specs.Reply.{told}
@@ -9,15 +10,17 @@ use Rattle.culvertjig.proofs.Replies.{reply-told}
 use Rattle.culvertjig.proofs.culvertjig_block.Statement.{statement}
 use Rattle.culvertjig.proofs.culvertjig_block.Tie as tie
 
-hour : (c : tie.After-hour-expected) → c .hour-expected .result ≡ expectedOf (c .before .before .args .expected)
-hour c = c .hour-expected .ensures ∙ ap expectedOf (handed (c .before .before .args .expected) (c .before .before .fits .expected .sfits))
+hour : (c : tie.After-hour-expected) → c .hour-expected .result ≡ expectedOf (c .before .before .args .expected) (c .before .before .args .hours)
+hour c =
+    let s = c .before .before in
+    c .hour-expected .ensures ∙ ap (λ (hour : ℤ). expectedOf hour (s .args .hours)) (handed (s .args .expected) (s .fits .expected .sfits))
 
 -- what the block call says
 reply : (c : tie.After-settle-block) (b : Answer) → c .settle-block .result ≡ b
-    → let A = c .before .before .before .before .args in replyOf (A .block .now) (A .excluded) (A .expected) (A .row .now) ≡ told b
+    → let A = c .before .before .before .before .args in replyOf (A .block .now) (A .excluded) (A .expected) (A .hours) (A .row .now) ≡ told b
 reply c b e =
     let A = c .before .before .before .before .args in
-    reply-told (A .block .now) (A .excluded) (A .expected) (A .row .now) _ _ b (hour (c .before .before)) (c .settle-block .ensures .0) e
+    reply-told (A .block .now) (A .excluded) (A .expected) (A .hours) (A .row .now) _ _ b (hour (c .before .before)) (c .settle-block .ensures .0) e
 
 returns : tie.Need-returns
 returns c =

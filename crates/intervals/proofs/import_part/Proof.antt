@@ -13,13 +13,14 @@ returns : tie.Need-returns
 returns c = rw (found-told (c .before .before .before .import-fault .ensures) (c .before .fault .given .1))
 
 -- where the block has no fault
-sound : (c : tie.After-enum-told) → importFault (c .before .before .before .args .h) (c .before .before .before .args .k) ≡ clear
+sound : (c : tie.After-enum-told) → importFault (c .before .before .before .args .hours) (c .before .before .before .args .h) (c .before .before .before .args .k) ≡ clear
 sound c = found-told (c .before .before .import-fault .ensures) (c .enum-told .given .1)
 
 curtailed-sum-requires : tie.Need-curtailed-sum-requires
 curtailed-sum-requires c κs =
-    let p = import-clear-says (c .before .before .before .args .h) (c .before .before .before .args .k) (sound c) in
-    (p .0, p .1)
+    let a = c .before .before .before .args in
+    let p = import-clear-says (a .hours) (a .h) (a .k) (sound c) in
+    (p .0, a .hours, p .1)
 
 returns-2 : tie.Need-returns-2
 unfolding importPart

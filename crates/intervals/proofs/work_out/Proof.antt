@@ -24,11 +24,11 @@ module _ (c : tie.After-enum-told) where
   sound : blockFault (start .args .h) (start .args .expected) ≡ clear
   sound = found-told (c .before .before .block-fault .ensures) (c .enum-told .given .1)
 
-  says : (form (start .args .h) ≡ clear) × (range (start .args .h) ≡ clear) × (start .args .h .n ≤ 30)
+  says : (form (start .args .h) ≡ clear) × (range (start .args .h) (start .args .expected) ≡ clear) × (start .args .h .n ≤ 30)
   says = no-fault-says (start .args .h) (start .args .expected) sound
 
 walk-requires : tie.Need-walk-requires
-walk-requires c κs = let e = c .before in tasks-walkable (start e .args .h) (says e .0, says e .1) (start e .args .excluded) (c .tasks-of .ensures)
+walk-requires c κs = let e = c .before in tasks-walkable (start e .args .h) (says e .0, start e .args .expected, says e .1) (start e .args .excluded) (c .tasks-of .ensures)
 
 module _ (c : tie.After-walk) where
   abbrev free : tie.After-enum-told
@@ -57,7 +57,7 @@ work-out-spec =
     (λ c κs. tt) (λ c. search needs) (λ c κs. tt)
     returns
     (λ c. search needs)
-    (λ c κs. (says c .0, says c .1))
+    (λ c κs. (says c .0, start c .args .expected, says c .1))
     walk-requires
     (λ c. search needs) (λ c κs. tt)
     returns-2

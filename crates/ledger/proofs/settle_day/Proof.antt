@@ -1,6 +1,5 @@
 -- `settle_day` meets its contract: a refused front refuses every hour, and behind a front that is read the blocks are settled.
-use mathlib.Core.Path.{_≡_, refl, sym, ap, _∙_}
-use native.Mathlib.Omega.{arith}
+use mathlib.Core.Path.{_≡_, sym, ap, _∙_}
 use borrow.Author.Needs.{needs}
 use Rattle.tariff.specs.declared.Check.{Check}
 use Rattle.tariff.specs.Reply.{clear, fault, numberOf, placeOf, shown}
@@ -14,7 +13,7 @@ use Rattle.ledger.proofs.settle_day.Tie as tie
 -- the front that is read
 module _ (c : tie.After-read-front) where
   abbrev day : Front
-  day = frontOf 24 (c .before .before .args .sheet .now)
+  day = frontOf (c .before .before .args .sheet .now)
 
 returns : tie.Need-returns
 returns c =
@@ -22,16 +21,20 @@ returns c =
     let found = c .before .before .found .given in
     let check : Check = found .0 .0 in
     let same = c .refused-day .ensures in
-    let e : day read .fault ≡ fault (numberOf check) (placeOf check) = sym (read .read-front .ensures .fault) ∙ ap shown (found .1) in (
+    let front = read .read-front .ensures in
+    let e : day read .fault ≡ fault (numberOf check) (placeOf check) = sym (front .fault) ∙ ap shown (found .1) in (
       ap (λ (d : Day). shown (d .header)) same ∙ sym e,
       (
-        ap (λ (d : Day). toldAll (d .hours)) same ∙ all-refused (day read) check e,
-        ap (λ (d : Day). toldTotal (d .total)) same ∙ total-withheld (day read) check e (omega arith),
+        ap (λ (d : Day). d .count) same ∙ front .hours,
+        (
+          ap (λ (d : Day). toldAll (d .hours)) same ∙ all-refused (day read) check e (front .few),
+          ap (λ (d : Day). toldTotal (d .total)) same ∙ total-withheld (day read) check e (front .some),
+        ),
       ),
     )
 
 settle-hours-requires : tie.Need-settle-hours-requires
-settle-hours-requires c κs = (c .before .before .read-front .ensures .inside, omega arith)
+settle-hours-requires c κs = let front = c .before .before .read-front .ensures in (front .inside, rw (front .hours) (front .few))
 
 returns-2 : tie.Need-returns-2
 returns-2 c =
@@ -39,11 +42,15 @@ returns-2 c =
     let told = c .before .before in
     let read = told .before .before in
     let front = read .read-front .ensures in
-    let e : day read .fault ≡ clear = sym (front .fault) ∙ ap shown (told .enum-told .given .1) in (
+    let e : day read .fault ≡ clear = sym (front .fault) ∙ ap shown (told .enum-told .given .1) in
+    let done = rw (front .hours) at (settled .ensures) in (
       front .fault,
       (
-        replies-are (day read) e _ (front .excluded) _ (front .body) (settled .result) refl (settled .ensures),
-        total-is (day read) e _ (front .excluded) _ (front .body) (settled .result) refl (settled .ensures),
+        front .hours,
+        (
+          replies-are (day read) e _ (front .excluded) _ (front .body) (settled .result) done,
+          total-is (day read) e _ (front .excluded) _ (front .body) (settled .result) done,
+        ),
       ),
     )
 

@@ -1,7 +1,7 @@
 //! Sheets and small changes to them, shared by the tests.
 #![allow(dead_code)]
 
-use second::import::{ImportHour, ImportHourLine, ImportInterval, ImportLine};
+use second::import::{CountedImportLine, ImportHour, ImportHourLine, ImportInterval, ImportLine};
 use second::{hour, Answer, Ask, Curve, DayAhead, Header, HourRecord, Interval, Run, Way};
 
 /// The block of document 01's section "Programs".
@@ -23,6 +23,11 @@ i=3 grains=-9000000000
 i=4 grains=0
 hour=14 pay=25250
 ";
+
+/// Counts of hours that no day has.
+pub const OTHER_COUNTS: [&str; 9] = [
+    "22", "26", "0", "-24", "1", "2", "48", "9999999", "-9999999",
+];
 
 /// An interval of a unit that does nothing, of so many seconds: it does not
 /// lag, and contributes 0.
@@ -109,6 +114,12 @@ pub fn one_cent_hours() -> Vec<HourRecord> {
     (0..24).map(one_cent_hour).collect()
 }
 
+/// A day sheet that says its hours, each of one cent.
+pub fn counted_day(hours: usize) -> String {
+    let blocks: Vec<HourRecord> = (0..hours as i64).map(one_cent_hour).collect();
+    day_of(&Header::counted(hours), &blocks)
+}
+
 /// An import's block whose first quarter is curtailed by 100 kW at 40 cents
 /// above its bid: one cent.
 pub fn one_cent_import(hour: i64) -> ImportHour {
@@ -145,12 +156,25 @@ pub fn one_cent_imports() -> Vec<ImportHour> {
 pub fn import_of(import: i64, cts: i64, hours: &[ImportHour]) -> String {
     let mut text = String::new();
     ImportLine { import, cts }.write(&mut text);
-    text.push('\n');
-    for hour in hours {
-        text += &hour.to_text();
-        text.push('\n');
-    }
-    text
+    text + "\n" + &import_blocks(hours)
+}
+
+/// Import 7 of a day that says its hours, each of one cent.
+pub fn counted_import(hours: i64) -> String {
+    let blocks: Vec<ImportHour> = (0..hours).map(one_cent_import).collect();
+    let mut text = String::new();
+    let line = CountedImportLine {
+        import: 7,
+        cts: 0,
+        hours,
+    };
+    line.write(&mut text);
+    text + "\n" + &import_blocks(&blocks)
+}
+
+fn import_blocks(hours: &[ImportHour]) -> String {
+    let closed = |hour: &ImportHour| hour.to_text() + "\n";
+    hours.iter().map(closed).collect()
 }
 
 /// The text with its line of this number, from 1, replaced.

@@ -7,8 +7,8 @@ use Rattle.checks.proofs.curtailed.first_in_range.Statement.{statement}
 use Rattle.checks.proofs.curtailed.first_in_range.Tie as tie
 
 -- the hour is handed over by its bits
-hour-told : (c : tie.After-is-hour) → c .is-hour .result ≡ isHour (c .before .args .hour)
-hour-told c = c .is-hour .ensures ∙ ap isHour (handed (c .before .args .hour) (c .before .fits .hour .sfits))
+hour-told : (c : tie.After-is-hour) → c .is-hour .result ≡ isHour (c .before .args .hours) (c .before .args .hour)
+hour-told c = c .is-hour .ensures ∙ ap (isHour (c .before .args .hours)) (handed (c .before .args .hour) (c .before .fits .hour .sfits))
 
 returns : tie.Need-returns
 returns c = λ i. hour-told (c .before .before) i && c .before .is-capacity .ensures i && c .is-price .ensures i

@@ -19,25 +19,22 @@ abbrev inRange : ImportHour → ℕ → Bool
 inRange h i = curtailedInRange (curtailed h i)
 
 abbrev Inv-loop : tie.InvT-loop
-Inv-loop n iv i₀ i = (i ≤ n) × ((k : ℕ) → k < i → curtailedInRange (getD iv k blankCurtailed) ≡ true)
+Inv-loop hours n iv i₀ i = (i ≤ n) × ((k : ℕ) → k < i → curtailedInRange (getD iv k blankCurtailed) ≡ true)
 
 abbrev μ-loop : tie.MeasureT-loop
-μ-loop n iv i₀ i = n - i
+μ-loop hours n iv i₀ i = n - i
 
 -- ---- line 1
 
-first : (c : tie.After-first-in-range Inv-loop μ-loop) → c .first-in-range .result ≡ (isHour (c .before .before .args .h .hour) && isCapacity (c .before .before .args .h .den .0) && isPrice (c .before .before .args .h .dec .0))
-first c =
-    let h = c .before .before .args .h in
-    let hour = handed (h .hour) (c .before .struct-told .given .0 .1) in
-    c .first-in-range .ensures ∙ (λ i. isHour (hour i) && isCapacity (h .den .0) && isPrice (h .dec .0))
+first : (c : tie.After-first-in-range Inv-loop μ-loop) → c .first-in-range .result ≡ (isHour (c .before .before .args .hours) (c .before .before .args .h .hour) && isCapacity (c .before .before .args .h .den .0) && isPrice (c .before .before .args .h .dec .0))
+first c = rw (handed (c .before .before .args .h .hour) (c .before .struct-told .given .0 .1)) at (c .first-in-range .ensures)
 
 returns : tie.Need-returns Inv-loop μ-loop
 unfolding importRange
 returns c = rw (fails (first (c .before)) (c .if1 .taken))
 
 -- what is left of the check when that is in range
-rest : (c : tie.After-iv Inv-loop μ-loop) → importRange (c .before .before .before .before .args .h) ≡ firstOf (lineOf (inRange (c .before .before .before .before .args .h)) 2) (c .before .before .before .before .args .h .n)
+rest : (c : tie.After-iv Inv-loop μ-loop) → importRange (c .before .before .before .before .args .hours) (c .before .before .before .before .args .h) ≡ firstOf (lineOf (inRange (c .before .before .before .before .args .h)) 2) (c .before .before .before .before .args .h .n)
 unfolding importRange
 rest c = let one = c .before in rw (passes (first (one .before)) (one .if1 .left))
 

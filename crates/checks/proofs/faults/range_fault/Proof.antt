@@ -1,5 +1,5 @@
 -- `faults::range_fault` meets its contract. The loop's invariant: each interval passed is in range.
-use mathlib.Core.Path.{_≡_, sym, _∙_, ap}
+use mathlib.Core.Path.{_≡_, sym, _∙_}
 use mathlib.Core.Bool.{Bool, true, _&&_}
 use Prim.Native.Nat.{ℕ, _-_, _<_, _≤_}
 use native.Mathlib.Omega.{arith}
@@ -8,7 +8,7 @@ use lib.ListN.{getD}
 use Rattle.tariff.specs.declared.Hour.{Hour}
 use Rattle.tariff.specs.Sheet.{isHour, aheadInRange, intervalInRange}
 use Rattle.tariff.specs.Reply.{firstOf}
-use Rattle.tariff.specs.Hour.{blank, interval, range}
+use Rattle.tariff.specs.Hour.{blank, interval, hoursAround, range}
 use Rattle.tariff.proofs.Ranges.{form-says}
 use Rattle.exact.proofs.Calls.{passes, fails, handed}
 use Rattle.checks.proofs.Lines.{lineOf, lines-clear, line-fault}
@@ -19,19 +19,19 @@ abbrev inRange : Hour → ℕ → Bool
 inRange h i = intervalInRange (interval h i)
 
 abbrev Inv-loop : tie.InvT-loop
-Inv-loop n iv i₀ i = (i ≤ n) × ((k : ℕ) → k < i → intervalInRange (getD iv k blank) ≡ true)
+Inv-loop hours n iv i₀ i = (i ≤ n) × ((k : ℕ) → k < i → intervalInRange (getD iv k blank) ≡ true)
 
 abbrev μ-loop : tie.MeasureT-loop
-μ-loop n iv i₀ i = n - i
+μ-loop hours n iv i₀ i = n - i
 
 -- ---- the first three lines
 
 -- line 1: the two answers joined
-joined : (c : tie.After-ahead-in-range Inv-loop μ-loop) → (c .before .is-hour .result && c .ahead-in-range .result) ≡ (isHour (c .before .before .before .args .h .hour) && aheadInRange (c .before .before .before .args .h .ahead))
+joined : (c : tie.After-ahead-in-range Inv-loop μ-loop) → (c .before .is-hour .result && c .ahead-in-range .result) ≡ (isHour (hoursAround (c .before .before .before .before .args .expected)) (c .before .before .before .before .args .h .hour) && aheadInRange (c .before .before .before .before .args .h .ahead))
 joined c =
-    let h = c .before .before .before .args .h in
-    let hour = handed (h .hour) (c .before .before .struct-told .given .0 .1) in
-    λ i. (c .before .is-hour .ensures ∙ ap isHour hour) i && c .ahead-in-range .ensures i
+    let around = c .before .before .before in
+    let hour = handed (around .before .args .h .hour) (c .before .before .struct-told .given .0 .1) in
+    λ i. (c .before .is-hour .ensures ∙ (λ j. isHour (around .hours-around .ensures j) (hour j))) i && c .ahead-in-range .ensures i
 
 returns : tie.Need-returns Inv-loop μ-loop
 unfolding range
@@ -51,7 +51,7 @@ returns-3 c =
     rw (passes (joined (one .before)) (one .if1 .left), passes (two .before .curve-in-range .ensures) (two .if2 .left), fails (c .before .curve-in-range2 .ensures) (c .if3 .taken))
 
 -- what is left of the check when those are in range
-rest : (c : tie.After-iv Inv-loop μ-loop) → range (c .before .before .before .before .before .before .before .before .before .args .h) ≡ firstOf (lineOf (inRange (c .before .before .before .before .before .before .before .before .before .args .h)) 4) (c .before .before .before .before .before .before .before .before .before .args .h .n)
+rest : (c : tie.After-iv Inv-loop μ-loop) → range (c .before .before .before .before .before .before .before .before .before .before .args .h) (c .before .before .before .before .before .before .before .before .before .before .args .expected) ≡ firstOf (lineOf (inRange (c .before .before .before .before .before .before .before .before .before .before .args .h)) 4) (c .before .before .before .before .before .before .before .before .before .before .args .h .n)
 unfolding range
 rest c =
     let three = c .before in
@@ -66,13 +66,13 @@ loop-holds c = (omega arith, below-none _)
 
 small : (c : tie.In-loop Inv-loop μ-loop) → c .before .loop .i < 30
 small c =
-    let place-at = c .before .before .before .before .before .before .before .before .before .before .before in
-    let s = place-at in omega (arith, form-says (s .args .h) (s .pre))
+    let s = c .before .before .before .before .before .before .before .before .before .before .before .before in
+    omega (arith, form-says (s .args .h) (s .pre))
 
 returns-4 : tie.Need-returns-4 Inv-loop μ-loop
 returns-4 c =
     let l = c .before .before .before .before in
-    let h = l .before .before .before .before .before .before .before .before .before .before .args .h in
+    let h = l .before .before .before .before .before .before .before .before .before .before .before .args .h in
     let line = line-fault (inRange h) 4 (l .loop .i) (l .loop .inv .1) (h .n) (c .before .before .before .loop-test .taken) (fails (c .before .interval-in-range .ensures) (c .if4 .taken)) in
     sym (rest (l .before) ∙ line)
 
@@ -83,7 +83,7 @@ loop-again c =
 returns-5 : tie.Need-returns-5 Inv-loop μ-loop
 returns-5 c =
     let l = c .before in
-    let h = l .before .before .before .before .before .before .before .before .before .before .args .h in
+    let h = l .before .before .before .before .before .before .before .before .before .before .before .args .h in
     sym (rest (l .before) ∙ lines-clear (inRange h) 4 (l .loop .i) (l .loop .inv .1) (h .n) (omega arith))
 
 pub range-fault-spec : {M : Type 1} → statement M
@@ -92,7 +92,7 @@ range-fault-spec =
     (tie.spec
     Inv-loop
     μ-loop
-    (λ c κs. tt) (λ c κs. tt)
+    (λ c κs. tt) (λ c κs. tt) (λ c κs. tt)
     returns
     (λ c κs. tt)
     returns-2

@@ -4,21 +4,17 @@ use Prim.Native.Nat.{ℕ, _-_, _<_, _≤_}
 use native.Mathlib.Omega.{arith}
 use lib.ListN.{getD}
 use lib.IntN.{ℤ}
-use Rattle.exact.specs.Whole.{Within, sumTo}
+use Rattle.exact.specs.Whole.{sumTo}
 use Rattle.exact.proofs.Sums.{sum-none, sum-more}
 use Rattle.tariff.specs.declared.Hour.{Hour}
-use Rattle.tariff.specs.Reply.{clear}
-use Rattle.tariff.specs.Hour.{blank, interval, range, secondsSum}
-use Rattle.tariff.proofs.Ranges.{form-says, range-says, interval-fits}
+use Rattle.tariff.specs.Hour.{blank, interval, secondsSum}
+use Rattle.tariff.proofs.Ranges.{form-says}
 use Rattle.checks.proofs.Seconds.{one-more-fits}
 use Rattle.checks.proofs.faults.seconds_fault.Statement.{statement}
 use Rattle.checks.proofs.faults.seconds_fault.Tie as tie
 
 abbrev secondsOf : Hour → ℕ → ℤ
 secondsOf h k = interval h k .s .0
-
-each-fits : (h : Hour) → range h ≡ clear → (k : ℕ) → k < h .n → Within 900 (secondsOf h k)
-each-fits h e k u = interval-fits (interval h k) (range-says h e .4 k u) .s
 
 abbrev Inv-loop : tie.InvT-loop
 Inv-loop n iv sum₀ i₀ sum i = (i ≤ n) × (sum .0 ≡ sumTo (λ k. getD iv k blank .s .0) i)
@@ -38,7 +34,7 @@ seconds-plus-requires c κs =
     let s = c .before .before .before .before in
     let l = c .before .before .loop in
     let h = s .args .h in
-    one-more-fits (secondsOf h) (h .n) (l .i) _ (form-says h (s .pre .0) .2) (each-fits h (s .pre .1)) (omega arith) (l .inv .1)
+    one-more-fits (secondsOf h) (h .n) (l .i) _ (form-says h (s .pre .0) .2) (s .pre .1) (omega arith) (l .inv .1)
 
 loop-again : tie.Need-loop-again Inv-loop μ-loop
 loop-again c =

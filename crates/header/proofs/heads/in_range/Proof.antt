@@ -1,4 +1,4 @@
--- `heads::in_range` tests the number of a line or the digits of a row.
+-- `heads::in_range` tests the number of a line or the digits of a row. A run and the closing line have no range.
 use mathlib.Core.Path.{_∙_}
 use borrow.Author.Needs.{needs}
 use Rattle.exact.proofs.Calls.{handed}
@@ -35,6 +35,10 @@ returns-3 : tie.Need-returns-3
 unfolding lineInRange
 returns-3 c = rw (c .enum-told .given .1)
 
+returns-4 : tie.Need-returns-4
+unfolding lineInRange
+returns-4 c = rw (c .enum-told2 .given .1)
+
 pub in-range-spec : {M : Type 1} → statement M
 in-range-spec =
     tie.close
@@ -43,7 +47,8 @@ in-range-spec =
     number-of-requires
     (λ c κs. search needs) (λ c. search needs) (λ c κs. search needs)
     all-admitted-requires
-    (λ c. search needs)
+    (λ c. search needs) (λ c. search needs)
     returns
     returns-2
-    returns-3)
+    returns-3
+    returns-4)

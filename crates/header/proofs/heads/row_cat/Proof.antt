@@ -2,6 +2,7 @@
 use mathlib.Core.Path.{_∙_, ap}
 use Prim.Native.Nat.{ℕ}
 use borrow.Author.Needs.{needs}
+use Rattle.tariff.specs.Sheet.{LONGEST-DAY}
 use Rattle.keys.specs.Keys.{CAT-LINE}
 use Rattle.lines.specs.Line.{filled}
 use Rattle.header.specs.Header.{CATEGORIES}
@@ -19,7 +20,7 @@ returns c =
     let r = c .before in
     let s = r .before .before in
     let digits = digits-are (s .args .hours) CAT-LINE CATEGORIES _ _ (s .pre .0 .whole) _ (r .row-start .ensures) in
-    c .cat-at .ensures ∙ ap (λ (f : ℕ → ℕ). filled (s .args .hours) 24 f 0) digits
+    c .cat-at .ensures ∙ ap (λ (f : ℕ → ℕ). filled (s .args .hours) LONGEST-DAY f 0) digits
 
 pub row-cat-spec : {M : Type 1} → statement M
 row-cat-spec = tie.close (tie.spec (λ c κs. search needs) cat-at-requires returns)

@@ -1,35 +1,40 @@
--- `layout::line_of` gives the lines of the layout, and past the last with a key the closing one.
-use mathlib.Core.Path.{_≡_, sym, ap}
-use Prim.Native.Nat.{ℕ, _≤_}
-use native.Mathlib.Decide.{decLe}
+-- `layout::line_of` gives the lines of form 2 or of form 1: their own in front of those that both have.
+use mathlib.Core.Path.{_≡_, refl, sym, _∙_}
+use mathlib.Core.Bool.{Bool, true, false}
+use Prim.Native.Nat.{ℕ, suc, _-_}
 use native.Mathlib.Omega.{arith}
-use lib.ListN.{length, List·getD-eq-default}
+use borrow.Author.Needs.{needs}
 use Rattle.keys.proofs.Keys.{none-below}
-use Rattle.header.specs.declared.layout.Line.the-variants.{Close}
+use Rattle.header.specs.declared.layout.Line.{Line}
 use Rattle.header.specs.Layout.{lineIn}
-use Rattle.header.specs.Header.{form1}
+use Rattle.header.specs.Header.{layoutBy}
 use Rattle.header.proofs.layout.line_of.Statement.{statement}
 use Rattle.header.proofs.layout.line_of.Tie as tie
 
-past : (j : ℕ) → 10 ≤ j → Close ≡ lineIn form1 j
-past j u = go (decLe (length form1) j)
-  where
-    go : Dec (length form1 ≤ j) → Close ≡ lineIn form1 j
-    go (yes v) = sym (List·getD-eq-default form1 Close v)
-    go (no v) = let e : 10 ≡ j = omega arith in ap (lineIn form1) e
+-- line k of a form, where k is the line and the form the one that is asked for
+line : (s : tie.Start) (form : Bool) {r : Line} (k : ℕ) → s .args .two ≡ form → s .args .j ≡ k → r ≡ lineIn (layoutBy form (s .args .judged)) k
+    → r ≡ lineIn (layoutBy (s .args .two) (s .args .judged)) (s .args .j)
+line s form k t e h = h ∙ (λ i. lineIn (layoutBy (sym t i) (s .args .judged)) (sym e i))
+
+returns-3 : tie.Need-returns-3
+returns-3 c =
+    let s = c .before .before .before in
+    let behind = none-below (s .args .j) 2 (c .before .match .rest) in
+    line s true (suc (suc (s .args .j - 2))) (c .before .before .if1 .taken) (omega arith) (c .common-line .ensures)
+
+returns-5 : tie.Need-returns-5
+returns-5 c =
+    let s = c .before .before .before in
+    let behind = none-below (s .args .j) 1 (c .before .match2 .rest) in
+    line s false (suc (s .args .j - 1)) (c .before .before .if1 .left) (omega arith) (c .common-line2 .ensures)
 
 pub line-of-spec : {M : Type 1} → statement M
 line-of-spec =
     tie.close
     (tie.spec
-    (λ c. ap (lineIn form1) (sym (c .match .keys1)))
-    (λ c. ap (lineIn form1) (sym (c .match .keys2)))
-    (λ c. ap (lineIn form1) (sym (c .match .keys3)))
-    (λ c. ap (lineIn form1) (sym (c .match .keys4)))
-    (λ c. ap (lineIn form1) (sym (c .match .keys5)))
-    (λ c. ap (lineIn form1) (sym (c .match .keys6)))
-    (λ c. ap (lineIn form1) (sym (c .match .keys7)))
-    (λ c. ap (lineIn form1) (sym (c .match .keys8)))
-    (λ c. ap (lineIn form1) (sym (c .match .keys9)))
-    (λ c. ap (lineIn form1) (sym (c .match .keys10)))
-    (λ c. past _ (none-below _ 10 (c .match .rest))))
+    (λ c. search needs) (λ c κs. search needs) (λ c. search needs) (λ c κs. search needs)
+    (λ c. line (c .before .before) true 0 (c .before .if1 .taken) (c .match .keys1) refl)
+    (λ c. line (c .before .before) true 1 (c .before .if1 .taken) (c .match .keys2) refl)
+    returns-3
+    (λ c. line (c .before .before) false 0 (c .before .if1 .left) (c .match2 .keys1) refl)
+    returns-5)

@@ -4,6 +4,7 @@ use Prim.Native.Nat.{_+_, _-_, _≤_}
 use native.Mathlib.Omega.{arith}
 use borrow.Author.Needs.{needs}
 use Rattle.exact.specs.Whole.{upTo}
+use Rattle.tariff.specs.Sheet.{LONGEST-DAY}
 use Rattle.text.specs.Number.{digitAt}
 use Rattle.lines.specs.Line.{filled}
 use Rattle.lines.proofs.Fill.{fill-next}
@@ -11,7 +12,7 @@ use Rattle.header.proofs.rows.cat_at.Statement.{statement}
 use Rattle.header.proofs.rows.cat_at.Tie as tie
 
 abbrev Inv-loop : tie.InvT-loop
-Inv-loop s at hours cat₀ h₀ cat h = (h ≤ hours) × (cat ≡ filled h 24 (λ k. digitAt s (at + k)) 0)
+Inv-loop s at hours cat₀ h₀ cat h = (h ≤ hours) × (cat ≡ filled h LONGEST-DAY (λ k. digitAt s (at + k)) 0)
 
 abbrev μ-loop : tie.MeasureT-loop
 μ-loop s at hours cat₀ h₀ cat h = hours - h
@@ -21,7 +22,7 @@ unfolding upTo
 loop-holds c = (omega arith, refl)
 
 loop-again : tie.Need-loop-again Inv-loop μ-loop
-loop-again c = (omega arith, fill-next _ _ _ 24 (omega arith) (c .before .before .loop .inv .1) (c .digit-at .ensures .0))
+loop-again c = (omega arith, fill-next _ _ _ LONGEST-DAY (omega arith) (c .before .before .loop .inv .1) (c .digit-at .ensures .0))
 
 returns : tie.Need-returns Inv-loop μ-loop
 returns c =

@@ -21,14 +21,14 @@ module _ (c : tie.After-read-block) where
   read-is = c .read-block .ensures ∙ ap (λ (l : List ℕ). importReadOf (importBlockAt l 0)) (lent-to-the-end (begun .args .s .now) (begun .args .at))
 
 returns : tie.Need-returns
-returns c = part-broken _ _ _ _ (read-is (c .before)) (c .if1 .taken)
+returns c = part-broken _ _ _ _ _ (read-is (c .before)) (c .if1 .taken)
 
 returns-2 : tie.Need-returns-2
 returns-2 c =
     let k = c .before .before .before in
     let s = begun k in
-    part-read _ _ _ _ (read-is k) _ (c .before .before .if1 .left)
-    (c .import-part .ensures ∙ ap (λ (cts : ℤ). blockWorth cts (read (k .read-block .result .hour)) (s .args .k)) (handed (s .args .cts) (s .fits .cts .sfits)))
+    part-read _ _ _ _ _ (read-is k) _ (c .before .before .if1 .left)
+    (c .import-part .ensures ∙ ap (λ (cts : ℤ). blockWorth cts (s .args .hours) (read (k .read-block .result .hour)) (s .args .k)) (handed (s .args .cts) (s .fits .cts .sfits)))
 
 pub settle-block-spec : {M : Type 1} → statement M
 settle-block-spec =

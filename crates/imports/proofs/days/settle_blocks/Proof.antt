@@ -19,7 +19,7 @@ use Rattle.imports.proofs.days.settle_blocks.Statement.{statement}
 use Rattle.imports.proofs.days.settle_blocks.Tie as tie
 
 abbrev Inv-loop : tie.InvT-loop
-Inv-loop s at name cts hours sum₀ i₀ k₀ sum i k = (k ≤ hours) × Added (toZ w64 cts) s at (sum .0) i k
+Inv-loop s at name cts hours sum₀ i₀ k₀ sum i k = (k ≤ hours) × Added (toZ w64 cts) hours s at (sum .0) i k
 
 abbrev μ-loop : tie.MeasureT-loop
 μ-loop s at name cts hours sum₀ i₀ k₀ sum i k = hours - k
@@ -33,7 +33,7 @@ module _ (s : tie.Start Inv-loop μ-loop) where
   reply-is name = ap (λ (cts : ℤ). replyUnder clear name cts (s .args .hours) body) (handed (s .args .cts) (s .fits .cts .sfits))
 
 loop-holds : tie.Need-loop-holds Inv-loop μ-loop
-loop-holds c = (omega arith, none-added _ _ _ (c .before .pre .0))
+loop-holds c = (omega arith, none-added _ _ _ _ (c .before .pre .0))
 
 settle-block-requires : tie.Need-settle-block-requires Inv-loop μ-loop
 settle-block-requires c κs = c .before .loop .inv .1 .inside
@@ -44,7 +44,7 @@ returns c =
     let L = b .before .before .loop in
     let s = b .before .before .before .before in
     c .handed-on .ensures
-    ∙ one-refused _ _ _ _ _ _ (L .inv .1) _ (b .settle-block .ensures) _ _ _ (b .before .loop-test .taken) (c .before .enum-told .given .1)
+    ∙ one-refused _ _ _ _ _ _ _ (L .inv .1) _ (b .settle-block .ensures) _ _ (b .before .loop-test .taken) (c .before .enum-told .given .1)
     ∙ reply-is s _
 
 plus-requires : tie.Need-plus-requires Inv-loop μ-loop
@@ -55,7 +55,7 @@ plus-requires c κs =
     let few = s .pre .1 in
     let fits : 108000000000000000 * L .k ≤ 4000000000000000000 = omega arith in (
       within-more fits (L .inv .1 .within),
-      here-within _ _ _ _ _ _ (L .inv .1) _ (b .settle-block .ensures) _ (c .before .answer .given .1),
+      here-within _ _ _ _ _ _ _ (L .inv .1) _ (b .settle-block .ensures) _ (c .before .answer .given .1),
     )
 
 loop-again : tie.Need-loop-again Inv-loop μ-loop
@@ -65,7 +65,7 @@ loop-again c =
     let L = b .before .before .loop in
     let next = piece-behind _ _ _ (c .piece-after .ensures) in (
       omega arith,
-      rw (c .before .plus .ensures) (one-added _ _ _ _ _ _ (L .inv .1) _ (b .settle-block .ensures) _ (k .before .answer .given .1) _ (next .0) (next .1)),
+      rw (c .before .plus .ensures) (one-added _ _ _ _ _ _ _ (L .inv .1) _ (b .settle-block .ensures) _ (k .before .answer .given .1) _ (next .0) (next .1)),
     )
 
 -- after the last block

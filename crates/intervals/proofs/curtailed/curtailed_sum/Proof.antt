@@ -33,11 +33,11 @@ abbrev μ-loop : tie.MeasureT-loop
 few : (c : tie.Start Inv-loop μ-loop) → c .args .h .n ≤ 30
 few c = import-form-says (c .args .h) (c .pre .0)
 
-says : (c : tie.Start Inv-loop μ-loop) → FirstFits (c .args .h) × ((i : ℕ) → i < c .args .h .n → CurtailedFits (curtailed (c .args .h) i))
-says c = import-range-says (c .args .h) (c .pre .1)
+says : (c : tie.Start Inv-loop μ-loop) → FirstFits (c .pre .1) (c .args .h) × ((i : ℕ) → i < c .args .h .n → CurtailedFits (curtailed (c .args .h) i))
+says c = import-range-says (c .pre .1) (c .args .h) (c .pre .2)
 
 each : (c : tie.Start Inv-loop μ-loop) (j : ℕ) → j < c .args .h .n → Within 3600000000000000 (importGrains (held (c .args .cts)) (c .args .h) (curtailed (c .args .h) j))
-each c j u = grains-within (held (c .args .cts)) (c .args .h) (curtailed (c .args .h) j) (says c .0) (says c .1 j u)
+each c j u = grains-within (held (c .args .cts)) (c .pre .1) (c .args .h) (curtailed (c .args .h) j) (says c .0) (says c .1 j u)
 
 -- ---- the loop
 

@@ -34,7 +34,7 @@ module _ (c : tie.After-struct-told2) where
   abbrev hourCents : Cents
   hourCents = paid .answer .given .0 .1 .0
 
-  sofar-most : Within 62400000000000 (sofar .0)
+  sofar-most : Within 65000000000000 (sofar .0)
   sofar-most = start .pre .0 .most (sofar .0) (ap toldTotal (summed .total .given .1))
 
   sum-fits : mag (hourSum .0) < 2 ^ 63

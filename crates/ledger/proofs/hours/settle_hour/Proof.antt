@@ -8,7 +8,7 @@ returns : tie.Need-returns
 returns c =
     let b = c .before .before .before .before .before in
     let a = b .args in
-    lent-reply (a .s .now) (a .at) (a .k) (a .excluded) (c .before .settle-block .result) (b .pre .1) (c .before .settle-block .ensures .0)
+    lent-reply (a .s .now) (a .at) (a .k) (a .excluded) (a .hours) (c .before .settle-block .result) (b .pre .1) (c .before .settle-block .ensures .0)
 
 pub settle-hour-spec : {M : Type 1} → statement M
 settle-hour-spec =

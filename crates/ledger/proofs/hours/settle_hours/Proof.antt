@@ -4,6 +4,7 @@ use mathlib.Core.Path.{_≡_, refl}
 use native.Mathlib.Omega.{arith}
 use borrow.Author.Needs.{needs}
 use lib.ListN.{drop}
+use Rattle.tariff.specs.Sheet.{LONGEST-DAY}
 use Rattle.tariff.specs.Reply.{told}
 use Rattle.ledger.specs.Day.{Front, dayReply}
 use Rattle.ledger.specs.Walk.{wordFront}
@@ -37,7 +38,7 @@ module _ (c : tie.After-settle-hour Inv-loop μ-loop) where
       refl (c .before .is-marked .ensures) (c .settle-hour .ensures)
 
 loop-holds : tie.Need-loop-holds Inv-loop μ-loop
-loop-holds c = let a = c .before .args in (omega arith, gone-none (a .s .now) _ _ (a .at) (c .before .pre .0) refl)
+loop-holds c = let a = c .before .args in (omega arith, gone-none (a .s .now) _ _ (a .at) refl (c .before .pre .0) refl)
 
 add-requires : tie.Need-add-requires Inv-loop μ-loop
 add-requires c κs = (most-more (omega arith) (turn c .loop .inv .1 .most), hour-rounded (day c) _ (c .settle-hour .result) (reply-is c))
@@ -46,7 +47,7 @@ loop-again : tie.Need-loop-again Inv-loop μ-loop
 loop-again c =
     let p = c .before .before in
     let l = turn p .loop in
-    let few : l .k < 24 = omega arith in (
+    let few : l .k < LONGEST-DAY = omega arith in (
       omega arith,
       gone-more (start p .args .s .now) (day p) (l .answers) (l .total) (l .i) (l .k) (l .inv .1) _ _ _ few
           (reply-is p) (c .before .add .ensures) (piece-behind _ _ _ (c .piece-after .ensures)),
@@ -59,13 +60,13 @@ returns : tie.Need-returns Inv-loop μ-loop
 returns c =
     let l = c .before .before .loop in
     let s = c .before .before .before .before .args .s .now in
-    more-follows s _ (l .answers) (l .total) (l .i) (rw (all-gone (c .before)) at (l .inv .1)) (c .if1 .taken)
+    more-follows s _ (l .answers) (l .total) (l .i) (rw (all-gone (c .before)) at (l .inv .1)) refl (c .if1 .taken)
 
 returns-2 : tie.Need-returns-2 Inv-loop μ-loop
 returns-2 c =
     let l = c .before .before .loop in
     let s = c .before .before .before .before .args .s .now in
-    none-follows s _ (l .answers) (l .total) (l .i) (rw (all-gone (c .before)) at (l .inv .1)) (c .if1 .left)
+    none-follows s _ (l .answers) (l .total) (l .i) (rw (all-gone (c .before)) at (l .inv .1)) refl (c .if1 .left)
 
 pub settle-hours-spec : {M : Type 1} → statement M
 settle-hours-spec =

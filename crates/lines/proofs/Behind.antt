@@ -1,27 +1,22 @@
--- The first piece of a text and what stands behind it, byte by byte.
+-- What stands behind the first empty line of a text, byte by byte.
 use mathlib.Core.Path.{_≡_, refl, sym, _∙_, ap}
 use mathlib.Core.Bool.{Bool, true, false, _&&_}
-use mathlib.Core.List.{List, [], _∷_, _++_, append-assoc}
+use mathlib.Core.List.{List, [], _∷_}
 use Prim.Native.Nat.{ℕ, _+_}
 use lib.Dec.{eqb}
-use lib.ListN.{take, drop, take-append-drop}
-use lib.Seq.{drop-drop, take-add}
+use lib.ListN.{drop}
+use lib.Seq.{drop-drop}
 use Rattle.exact.specs.Choice.{if_then_else_}
 use Rattle.exact.proofs.Parts.{by-test}
 use Rattle.text.specs.declared.Next.the-variants.{At}
 use Rattle.lines.specs.Cut.{emptyIn, behindPlace, behind}
-use Rattle.lines.specs.Pieces.{upToPlace, firstPiece}
 
 -- `start` says that a line begins at the text's first byte
 unfoldable pub behindIn : (start : Bool) → List ℕ → List ℕ
 behindIn start [] = []
 behindIn start (b ∷ t) = if start && eqb b 10 then t else behindIn (eqb b 10) t
 
-unfoldable pub firstIn : (start : Bool) → List ℕ → List ℕ
-firstIn start [] = []
-firstIn start (b ∷ t) = b ∷ (if start && eqb b 10 then [] else firstIn (eqb b 10) t)
-
-one-byte : (start : Bool) (b : ℕ) (t : List ℕ) (i : ℕ)
+pub one-byte : (start : Bool) (b : ℕ) (t : List ℕ) (i : ℕ)
     → emptyIn start (b ∷ t) i ≡ (if start && eqb b 10 then At (i + 1) else emptyIn (eqb b 10) t (i + 1))
 unfolding emptyIn
 one-byte start b t i = go (eqb b 10) start
@@ -36,7 +31,7 @@ one-byte start b t i = go (eqb b 10) start
 
 -- the bytes t are what the text s has from place i on
 module _ (s : List ℕ) where
-  rest-moves : (i b : ℕ) (t : List ℕ) → drop i s ≡ b ∷ t → drop (i + 1) s ≡ t
+  pub rest-moves : (i b : ℕ) (t : List ℕ) → drop i s ≡ b ∷ t → drop (i + 1) s ≡ t
   rest-moves i b t e = sym (drop-drop 1 i s) ∙ ap (drop 1) e
 
   behind-from : (t : List ℕ) (i : ℕ) (start : Bool) → drop i s ≡ t → behindPlace (emptyIn start t i) s ≡ behindIn start t
@@ -49,23 +44,6 @@ module _ (s : List ℕ) where
       (λ r. rest-moves i b t e)
       (λ r. behind-from t (i + 1) (eqb b 10) (rest-moves i b t e)))
 
-  front-grows : (i b : ℕ) (t u : List ℕ) → drop i s ≡ b ∷ t → take (i + 1) s ++ u ≡ take i s ++ (b ∷ u)
-  front-grows i b t u e = rw (take-add i 1 s, e) (append-assoc (take i s) (b ∷ []) u)
-
-  first-from : (t : List ℕ) (i : ℕ) (start : Bool) → drop i s ≡ t → upToPlace (emptyIn start t i) s ≡ take i s ++ firstIn start t
-  unfolding emptyIn firstIn
-  first-from [] i start e = sym (rw e at (take-append-drop i s))
-  first-from (b ∷ t) i start e =
-      rw (one-byte start b t i)
-      (by-test (start && eqb b 10)
-      (λ r. upToPlace (if r then At (i + 1) else emptyIn (eqb b 10) t (i + 1)) s ≡ take i s ++ (b ∷ (if r then [] else firstIn (eqb b 10) t)))
-      (λ r. rw (take-add i 1 s, e))
-      (λ r. first-from t (i + 1) (eqb b 10) (rest-moves i b t e) ∙ front-grows i b t _ e))
-
 pub behind-is : (s : List ℕ) → behind s ≡ behindIn true s
 unfolding behind
 behind-is s = behind-from s s 0 true refl
-
-pub first-is : (s : List ℕ) → firstPiece s ≡ firstIn true s
-unfolding firstPiece
-first-is s = first-from s s 0 true refl

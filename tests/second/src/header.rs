@@ -1,0 +1,253 @@
+//! The header of a day sheet: the unit, its hours and their marks, and who is
+//! excluded by them.
+
+use std::fmt::Write;
+
+use crate::refusal::{Check, Refusal};
+use crate::text::{read_at, write_pair, Cut, Fault, Line, LineFault, Pairs, DAY_HOURS, MARK, NAME};
+use crate::trace::{Event, Reason, Spot, Trace};
+
+/// Hours of a day whose sheet does not say them.
+pub const HOURS: usize = 24;
+
+/// A row of marks: the digit of each hour, hour 0 first.
+pub type Marks = Vec<u8>;
+
+/// The forms of a sheet.
+const FORMS: [i64; 2] = [1, COUNTED_FORM];
+
+/// The form whose header says the hours of its day, on line 2. Every other
+/// number on line 1 has the layout without them.
+const COUNTED_FORM: i64 = 2;
+
+/// No category, and categories (i), (iii), (iv) and (v) of 25.2.1. Category
+/// (ii), demand side resources, is not among what is paid yet.
+const CATEGORIES: [u8; 5] = [0, 1, 3, 4, 5];
+
+/// The exceptions 25.2.2.1 to 25.2.2.6.
+const EXCEPTIONS: [&str; 6] = ["x1", "x2", "x3", "x4", "x5", "x6"];
+
+/// How far the exceptions 4 to 6 reach, in hours before and after.
+const REACH: isize = 2;
+
+/// A day's header as it stands: a row of marks can have any digits, and any
+/// number of them.
+#[derive(Clone, Debug, PartialEq, Eq)]
+pub struct Header {
+    /// The form of the sheet.
+    pub form: i64,
+    /// The hours of the day; 24 in a form that does not say them.
+    pub hours: i64,
+    /// The unit.
+    pub unit: i64,
+    /// Whether RTC can commit the unit.
+    pub rtc: i64,
+    /// The category of each hour, 0 for none.
+    pub cat: Marks,
+    /// The six exceptions, x1 first.
+    pub x: [Marks; 6],
+}
+
+/// A unit in category (i) all day, without exceptions.
+impl Default for Header {
+    fn default() -> Self {
+        Header {
+            form: 1,
+            ..Header::counted(HOURS)
+        }
+    }
+}
+
+impl Header {
+    /// The same for a sheet that says its hours, so many of them.
+    pub fn counted(hours: usize) -> Self {
+        Header {
+            form: COUNTED_FORM,
+            hours: hours as i64,
+            unit: 1,
+            rtc: 0,
+            cat: vec![1; hours],
+            x: std::array::from_fn(|_| vec![0; hours]),
+        }
+    }
+
+    /// Reads a header; the first line at fault is named.
+    fn read(cut: &Cut<'_>) -> Result<Self, LineFault> {
+        let lines = &cut.lines;
+        let form = form_of(cut)?;
+        let (hours, above) = match form {
+            COUNTED_FORM => (read_at(lines, 2, |line| one_number(line, "hours"))?, 2),
+            _ => (HOURS as i64, 1),
+        };
+        let digits = row_length(hours);
+        let mut header = Header {
+            form,
+            hours,
+            unit: read_at(lines, above + 1, |line| one_number(line, "unit"))?,
+            rtc: read_at(lines, above + 2, |line| one_number(line, "rtc"))?,
+            cat: read_at(lines, above + 3, |line| one_row(line, "cat", digits))?,
+            x: Default::default(),
+        };
+        for (i, key) in EXCEPTIONS.into_iter().enumerate() {
+            header.x[i] = read_at(lines, above + 4 + i, |line| one_row(line, key, digits))?;
+        }
+        // The line behind x6 has to be there, and has to be empty.
+        let last = above + 10;
+        if lines.len() >= last {
+            return Err((last, Fault::Extra));
+        }
+        if !cut.closed {
+            return Err((last, Fault::Absent));
+        }
+        Ok(header)
+    }
+
+    /// RANGE at the first line with a number or digit that it does not allow.
+    fn check_ranges(&self) -> Result<(), Refusal> {
+        let mut good = vec![FORMS.contains(&self.form)];
+        if self.form == COUNTED_FORM {
+            good.push(DAY_HOURS.missed(self.hours).is_none());
+        }
+        good.push(NAME.missed(self.unit).is_none());
+        good.push(MARK.missed(self.rtc).is_none());
+        good.push(self.cat.iter().all(|digit| CATEGORIES.contains(digit)));
+        let is_mark = |digit: &u8| MARK.missed(i64::from(*digit)).is_none();
+        good.extend(self.x.iter().map(|marks| marks.iter().all(is_mark)));
+        match good.iter().position(|good| !good) {
+            Some(i) => Err(Refusal::new(Check::Range, i + 1)),
+            None => Ok(()),
+        }
+    }
+
+    /// Every reason for which the hour is excluded; none if it is eligible.
+    pub fn reasons(&self, hour: usize) -> Vec<Reason> {
+        let mut reasons = Vec::new();
+        if matches!(self.cat.get(hour), None | Some(0)) {
+            reasons.push(Reason::NoCategory);
+        }
+        for mark in 1..=3 {
+            if self.is_set(mark, Some(hour)) {
+                reasons.push(Reason::Own(mark));
+            }
+        }
+        for mark in 4..=6 {
+            for hours in -REACH..=REACH {
+                let acts = mark == 4 || self.rtc == 1;
+                // Hours of another day are not looked at.
+                if acts && self.is_set(mark, hour.checked_add_signed(hours)) {
+                    reasons.push(Reason::Spread(mark, hours));
+                }
+            }
+        }
+        reasons
+    }
+
+    /// Whether each hour is excluded. Every hour has its digit of `cat`.
+    pub fn excluded(&self) -> Vec<bool> {
+        let hours = 0..self.cat.len();
+        hours.map(|hour| !self.reasons(hour).is_empty()).collect()
+    }
+
+    /// Whether exception `mark`, 1 to 6, is set in an hour of this day.
+    fn is_set(&self, mark: usize, hour: Option<usize>) -> bool {
+        let row = mark.checked_sub(1).and_then(|i| self.x.get(i));
+        let digit = row.and_then(|row| row.get(hour?));
+        digit == Some(&1)
+    }
+
+    /// The header's lines with the closing empty one.
+    pub fn to_text(&self) -> String {
+        let mut text = String::new();
+        write_number(&mut text, "form", self.form);
+        if self.form == COUNTED_FORM {
+            write_number(&mut text, "hours", self.hours);
+        }
+        write_number(&mut text, "unit", self.unit);
+        write_number(&mut text, "rtc", self.rtc);
+        write_row(&mut text, "cat", &self.cat);
+        for (key, marks) in EXCEPTIONS.into_iter().zip(&self.x) {
+            write_row(&mut text, key, marks);
+        }
+        text.push('\n');
+        text
+    }
+
+    /// Notes what the marks say of an hour.
+    pub(crate) fn note(&self, hour: usize, trace: &mut Trace) {
+        for reason in self.reasons(hour) {
+            trace.note(Event::Excluded(reason));
+        }
+        for mark in 5..=6 {
+            if self.rtc == 0 && self.is_set(mark, Some(hour)) {
+                trace.note(Event::MarkWithoutRtc(mark));
+            }
+        }
+    }
+}
+
+/// Reads a header and refuses one that no day can have.
+pub(crate) fn read_header(head: &Cut<'_>, trace: &mut Trace) -> Result<Header, Refusal> {
+    let read = Header::read(head).map_err(|(line, fault)| {
+        trace.note(Event::Malformed(spot_of(head, line), fault));
+        Refusal::new(Check::Form, line)
+    });
+    let judged = read.and_then(|header| header.check_ranges().map(|()| header));
+    if let Err(refusal) = judged {
+        let spot = spot_of(head, refusal.place);
+        trace.note(Event::Refused(refusal.check, spot));
+    }
+    judged
+}
+
+/// The number that decides the layout.
+fn form_of(head: &Cut<'_>) -> Result<i64, LineFault> {
+    read_at(&head.lines, 1, |line| one_number(line, "form"))
+}
+
+/// A line of the header in the layout that it has.
+fn spot_of(head: &Cut<'_>, line: usize) -> Spot {
+    match form_of(head) {
+        Ok(COUNTED_FORM) => Spot::CountedHeader(line),
+        _ => Spot::Header(line),
+    }
+}
+
+/// The digits that a row of marks must have; any number of them where no day
+/// has so many hours, as the count alone is then to blame.
+fn row_length(hours: i64) -> Option<usize> {
+    let is_day = DAY_HOURS.missed(hours).is_none();
+    usize::try_from(hours).ok().filter(|_| is_day)
+}
+
+fn one_number(line: Line<'_>, key: &str) -> Result<i64, Fault> {
+    let mut pairs = Pairs::of(line)?;
+    let value = pairs.value(key)?;
+    pairs.end()?;
+    Ok(value)
+}
+
+fn one_row(line: Line<'_>, key: &str, length: Option<usize>) -> Result<Marks, Fault> {
+    let mut pairs = Pairs::of(line)?;
+    let row = pairs.bytes(key)?;
+    pairs.end()?;
+    let fits = length.is_none_or(|length| row.len() == length);
+    if !fits || !row.iter().all(u8::is_ascii_digit) {
+        return Err(Fault::Marks);
+    }
+    Ok(row.iter().map(|digit| digit - b'0').collect())
+}
+
+fn write_number(text: &mut String, key: &str, value: i64) {
+    write_pair(text, key, &value);
+    text.push('\n');
+}
+
+fn write_row(text: &mut String, key: &str, marks: &Marks) {
+    text.push_str(key);
+    text.push('=');
+    for mark in marks {
+        // Appending to a string cannot fail.
+        let _ = write!(text, "{mark}");
+    }
+    text.push('\n');
+}

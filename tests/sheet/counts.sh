@@ -1,0 +1,78 @@
+# What the sheet's page says of the two forms and of the count of hours. Read by
+# sheet.sh.
+
+# The listing $2, through sed, and blocks like the other listing for its hours: its program prints $5.
+prints_for() {
+    sed "$4" "$work/listing.$2" >"$work/changed"
+    with_blocks "$work/changed" "$work/listing.$3" >"$work/text"
+    echo "$5" >"$work/want"
+    run "$1"
+    answered "$2, $4"
+}
+
+# What is refused of the two forms.
+while read -r listing change answer; do
+    prints_for day "$listing" block "$change" "$answer"
+done <<'END'
+form-1 1{p;s/.*/hours=24/;} refused=1 at=2
+form-2 2d refused=1 at=2
+form-1 1s/1/3/ refused=2 at=1
+form-2 1s/2/3/ refused=1 at=2
+form-2 2s/=.*/=024/ refused=1 at=2
+form-2 2s/=.*/=+24/ refused=1 at=2
+form-2 2s/=.*/=/ refused=1 at=2
+form-2 2s/=.*/=22/ refused=2 at=2
+form-2 2s/=.*/=22/;5,11s/=.*/=/ refused=2 at=2
+form-2 2s/=.*/=24/ refused=1 at=5
+form-1 4s/1$// refused=1 at=4
+form-1 11d refused=1 at=11
+form-2 12d refused=1 at=12
+form-2 2s/=.*/=22/;8s/0$/o/ refused=1 at=8
+form-2 2s/=.*/=22/;12d refused=1 at=12
+END
+prints_for import import-25 curtailed 's/ cts=0 hours=25/ hours=25 cts=0/' "refused=1 hour=- at=1"
+prints_for import import-25 curtailed 's/ hours=25/&&/' "refused=1 hour=- at=1"
+prints_for import import curtailed '2s/$/hours=25/' "refused=1 hour=- at=2"
+
+# With $3 blocks behind the head in $work/changed, the first saying hour $4, a line of what is printed is $5.
+has_line() {
+    with_blocks "$work/changed" "$work/listing.$2" "$3" | sed "s/^hour=0 /hour=$4 /" >"$work/text"
+    run "$1"
+    if grep -q -x -e "$5" "$work/got"; then
+        pass
+    else
+        fail "$1, $hours hours, $3 blocks, the first says $4: not $5"
+    fi
+}
+
+# Each count: as many blocks, a block fewer and one more, and which hours a block may say.
+for hours in 23 24 25; do
+    late=2
+    [ "$hours" -eq 25 ] && late=3
+    before=$((hours - 1))
+    awk -F= -v hours="$hours" '$1 == "hours" { $2 = hours }
+        $1 ~ /^(cat|x[1-6])$/ { $2 = substr($2, 1, hours) }
+        { print NF == 2 ? $1 "=" $2 : $0 }' "$work/listing.form-2" >"$work/changed"
+    has_line day block "$hours" 0 total=505000
+    has_line day block "$before" 0 "hour=$before refused=1 at=1"
+    has_line day block $((hours + 1)) 0 total=-
+    has_line day block "$hours" 23 "hour=0 refused=3 at=1"
+    has_line day block "$hours" 24 "hour=0 refused=$late at=1"
+    has_line day block "$hours" 25 "hour=0 refused=2 at=1"
+    sed "s/=25/=$hours/" "$work/listing.import-25" >"$work/changed"
+    has_line import curtailed "$hours" 0 "import=815 pay=$((hours * 15000))"
+    has_line import curtailed "$before" 0 "refused=1 hour=$before at=1"
+    has_line import curtailed $((hours + 1)) 0 "refused=3 hour=- at=0"
+    has_line import curtailed "$hours" 23 "refused=3 hour=0 at=1"
+    has_line import curtailed "$hours" 24 "refused=$late hour=0 at=1"
+    has_line import curtailed "$hours" 25 "refused=2 hour=0 at=1"
+done
+
+# A day of 24 hours has the same answer in both forms.
+with_blocks "$work/listing.form-1" "$work/listing.block" >"$work/text"
+run day
+mv "$work/got" "$work/want"
+sed '1s/.*/form=2/; 2{h; s/.*/hours=24/; p; g; }' "$work/text" >"$work/form-2"
+mv "$work/form-2" "$work/text"
+run day
+answered "form 1's day in form 2"
