@@ -1,6 +1,6 @@
 -- Laws that the proofs of the crate's functions cite. For callers: where a header without fault ends (HeaderEnds), whatever follows it
 -- (HeaderAlong), that it ends at the first empty line (HeaderBehind), that any header is judged by what stands up to that line (HeaderFirst), as in
--- a squeezed text (HeaderSqueezed), and by the first bytes of that (HeaderLocal).
+-- a squeezed text (HeaderSqueezed), and by the first bytes of that (HeaderLocal); and what its count decides (HeaderCounts).
 pub mod Digits
 pub mod HeaderLines
 pub mod Said

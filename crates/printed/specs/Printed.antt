@@ -24,7 +24,7 @@ contributionsOf (read h) = upTo (contribution h false) (h .n)
 unfoldable pub hourText : List ℕ → List ℕ
 hourText s = let b = blockOf s in answerText (hourSaid b) (contributionsOf b) (replyTo b false Any 30)
 
--- `day`: of what stands in front of a day's blocks, and of them; a sheet's front is its header
+-- `day`: what is printed of a front and of the blocks behind it. A sheet's front is its header
 unfoldable pub dayPage : Front → List ℕ
 dayPage f = dayLines (f .fault) (dayReplies f) (dayTotal f)
 

@@ -3,17 +3,6 @@
 mod common;
 
 use common::*;
-use second::import_text;
-
-fn print(text: &str) -> String {
-    import_text(text.as_bytes())
-}
-
-#[track_caller]
-fn refused(text: &str, check: u8, hour: &str, line: usize) {
-    let printed = format!("refused={check} hour={hour} at={line}\n");
-    assert_eq!(print(text), printed, "{text}");
-}
 
 #[test]
 fn good_imports() {
@@ -21,11 +10,11 @@ fn good_imports() {
         let text = counted_import(hours);
         assert!(text.starts_with(&format!("import=7 cts=0 hours={hours}\n\nhour=0 ")));
         let answer = format!("import=7 pay={hours}\n");
-        assert_eq!(print(&text), answer);
-        assert_eq!(print(&text[..text.len() - 1]), answer);
+        assert_eq!(print_import(&text), answer);
+        assert_eq!(print_import(&text[..text.len() - 1]), answer);
     }
     let without = with_line(&counted_import(24), 1, "import=7 cts=0");
-    assert_eq!(print(&without), "import=7 pay=24\n");
+    assert_eq!(print_import(&without), "import=7 pay=24\n");
 }
 
 #[test]
@@ -52,22 +41,22 @@ fn the_hours_of_an_import_stand_at_the_end_of_line_1() {
         "import=7 cts=0 hour=24",
         "import=7 cts=0 24",
     ] {
-        refused(&with_line(&text, 1, line), 1, "-", 1);
+        refused_import(&with_line(&text, 1, line), 1, "-", 1);
     }
-    refused("import=7 cts=0 hours=24", 1, "-", 1);
-    refused("import=7 cts=0 hours=24\n", 1, "-", 2);
-    refused("import=7 cts=0\nhours=24\n\n", 1, "-", 2);
-    refused("import=7 cts=0 hours=24\n\n", 1, "0", 1);
+    refused_import("import=7 cts=0 hours=24", 1, "-", 1);
+    refused_import("import=7 cts=0 hours=24\n", 1, "-", 2);
+    refused_import("import=7 cts=0\nhours=24\n\n", 1, "-", 2);
+    refused_import("import=7 cts=0 hours=24\n\n", 1, "0", 1);
 }
 
 #[test]
 fn another_count_of_an_import_is_range() {
     for count in OTHER_COUNTS {
         let text = with_value(&counted_import(24), 1, "hours", count);
-        refused(&text, 2, "-", 1);
+        refused_import(&text, 2, "-", 1);
         // FORM of the second line comes first; blocks are not looked at.
-        refused(&without_line(&text, 2), 1, "-", 2);
-        refused(&with_line(&text, 3, "x"), 2, "-", 1);
+        refused_import(&without_line(&text, 2), 1, "-", 2);
+        refused_import(&with_line(&text, 3, "x"), 2, "-", 1);
     }
 }
 
@@ -75,17 +64,17 @@ fn another_count_of_an_import_is_range() {
 fn blocks_of_an_import_go_by_its_hours() {
     for hours in [23, 24, 25] {
         let text = counted_import(hours);
-        refused(&(text.clone() + "\n"), 3, "-", 0);
-        refused(&(text + "x"), 3, "-", 0);
+        refused_import(&(text.clone() + "\n"), 3, "-", 0);
+        refused_import(&(text + "x"), 3, "-", 0);
         let more = with_value(&counted_import(hours + 1), 1, "hours", &hours.to_string());
-        refused(&more, 3, "-", 0);
+        refused_import(&more, 3, "-", 0);
         let less = with_value(&counted_import(hours - 1), 1, "hours", &hours.to_string());
-        refused(&less, 1, &(hours - 1).to_string(), 1);
+        refused_import(&less, 1, &(hours - 1).to_string(), 1);
     }
     let more = with_line(&counted_import(25), 1, "import=7 cts=0");
-    refused(&more, 3, "-", 0);
+    refused_import(&more, 3, "-", 0);
     let less = with_line(&counted_import(23), 1, "import=7 cts=0");
-    refused(&less, 1, "23", 1);
+    refused_import(&less, 1, "23", 1);
 }
 
 #[test]
@@ -100,8 +89,8 @@ fn what_an_import_block_says_as_its_hour() {
     ] {
         // Block 5 starts on line 33: two lines, and six for each block.
         let text = with_value(&counted_import(hours), 33, "hour", says);
-        refused(&text, check, "5", 1);
+        refused_import(&text, check, "5", 1);
     }
     let plain = with_line(&counted_import(24), 1, "import=7 cts=0");
-    refused(&with_value(&plain, 33, "hour", "24"), 2, "5", 1);
+    refused_import(&with_value(&plain, 33, "hour", "24"), 2, "5", 1);
 }

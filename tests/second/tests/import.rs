@@ -4,21 +4,9 @@ mod common;
 
 use common::*;
 use second::import::ImportHour;
-use second::import_text;
-
-fn print(text: &str) -> String {
-    import_text(text.as_bytes())
-}
-
-#[track_caller]
-fn refused(text: &str, check: u8, hour: &str, line: usize) {
-    let expected = format!("refused={check} hour={hour} at={line}\n");
-    assert_eq!(print(text), expected, "{text}");
-}
-
 #[track_caller]
 fn pays(text: &str, cents: i64) {
-    assert_eq!(print(text), format!("import=7 pay={cents}\n"));
+    assert_eq!(print_import(text), format!("import=7 pay={cents}\n"));
 }
 
 fn good() -> String {
@@ -49,15 +37,15 @@ fn a_good_import() {
 #[test]
 fn the_first_two_lines() {
     let text = good();
-    refused("", 1, "-", 1);
-    refused("\n", 1, "-", 1);
-    refused("import=7 cts=0", 1, "-", 1);
-    refused("import=7 cts=0\n", 1, "-", 2);
-    refused("import=7 cts=0\n\n", 1, "0", 1);
-    refused(&format!("\n{text}"), 1, "-", 1);
-    refused(&without_line(&text, 2), 1, "-", 2);
-    refused(&with_line(&text, 2, "\r"), 1, "-", 2);
-    refused("import=7 cts=0\nx", 1, "-", 2);
+    refused_import("", 1, "-", 1);
+    refused_import("\n", 1, "-", 1);
+    refused_import("import=7 cts=0", 1, "-", 1);
+    refused_import("import=7 cts=0\n", 1, "-", 2);
+    refused_import("import=7 cts=0\n\n", 1, "0", 1);
+    refused_import(&format!("\n{text}"), 1, "-", 1);
+    refused_import(&without_line(&text, 2), 1, "-", 2);
+    refused_import(&with_line(&text, 2, "\r"), 1, "-", 2);
+    refused_import("import=7 cts=0\nx", 1, "-", 2);
     for line in [
         "import=7",
         "cts=0 import=7",
@@ -65,71 +53,71 @@ fn the_first_two_lines() {
         "import=07 cts=0",
         "import=7 cts=",
     ] {
-        refused(&with_line(&text, 1, line), 1, "-", 1);
+        refused_import(&with_line(&text, 1, line), 1, "-", 1);
     }
     for value in ["0", "-1", "-9999999"] {
-        refused(&with_value(&text, 1, "import", value), 2, "-", 1);
+        refused_import(&with_value(&text, 1, "import", value), 2, "-", 1);
     }
     for value in ["2", "-1", "17"] {
-        refused(&with_value(&text, 1, "cts", value), 2, "-", 1);
+        refused_import(&with_value(&text, 1, "cts", value), 2, "-", 1);
     }
-    refused(&with_value(&text, 1, "import", "12345678"), 1, "-", 1);
+    refused_import(&with_value(&text, 1, "import", "12345678"), 1, "-", 1);
     let last = with_value(&text, 1, "import", "9999999");
-    assert_eq!(print(&last), "import=9999999 pay=24\n");
+    assert_eq!(print_import(&last), "import=9999999 pay=24\n");
     // The two lines are one header: FORM of the second before RANGE.
     let range = with_value(&text, 1, "cts", "2");
-    refused(&without_line(&range, 2), 1, "-", 2);
+    refused_import(&without_line(&range, 2), 1, "-", 2);
 }
 
 #[test]
 fn the_first_refused_block_refuses_the_day() {
     let seconds = with_value(&good(), line_of(3, 5), "s", "899");
-    refused(&seconds, 5, "3", 0);
+    refused_import(&seconds, 5, "3", 0);
     let form_later = with_value(&seconds, line_of(5, 1), "den", "07");
-    refused(&form_later, 5, "3", 0);
-    refused(&with_value(&good(), line_of(5, 1), "den", "07"), 1, "5", 1);
+    refused_import(&form_later, 5, "3", 0);
+    refused_import(&with_value(&good(), line_of(5, 1), "den", "07"), 1, "5", 1);
     // Bytes behind the last block are asked for last.
-    refused(&(seconds + "\n"), 5, "3", 0);
-    refused(&(good() + "\n"), 3, "-", 0);
-    refused(&(good() + "x"), 3, "-", 0);
-    refused(&(good() + "\n\n"), 3, "-", 0);
+    refused_import(&(seconds + "\n"), 5, "3", 0);
+    refused_import(&(good() + "\n"), 3, "-", 0);
+    refused_import(&(good() + "x"), 3, "-", 0);
+    refused_import(&(good() + "\n\n"), 3, "-", 0);
 }
 
 #[test]
 fn a_block_of_few_or_many_lines() {
     let hours = one_cent_imports();
     let two = import_of(7, 0, &hours[..2]);
-    refused(&two, 1, "2", 1);
-    refused(&(two.clone() + "\n"), 1, "2", 1);
-    refused(&(two.clone() + "hour=2 den=5 dec=5\n"), 5, "2", 0);
-    refused(&(two.clone() + "hour=2 den=5 dec=5"), 1, "2", 1);
+    refused_import(&two, 1, "2", 1);
+    refused_import(&(two.clone() + "\n"), 1, "2", 1);
+    refused_import(&(two.clone() + "hour=2 den=5 dec=5\n"), 5, "2", 0);
+    refused_import(&(two.clone() + "hour=2 den=5 dec=5"), 1, "2", 1);
     let quiet = "s=120 cut=0 prof=0 rten=0 lbmp=0 bid=0 def=0\n";
     let thirty = format!("{two}hour=2 den=5 dec=5\n{}", quiet.repeat(30));
-    refused(&thirty, 1, "3", 1);
-    refused(&(thirty.clone() + quiet), 1, "2", 32);
-    refused(&(thirty.clone() + "what"), 1, "2", 32);
-    refused(&(thirty.clone() + "x\nx\nx\nx\nx\nx\n"), 1, "2", 32);
-    refused(&(thirty + "\nhour=3"), 1, "3", 1);
+    refused_import(&thirty, 1, "3", 1);
+    refused_import(&(thirty.clone() + quiet), 1, "2", 32);
+    refused_import(&(thirty.clone() + "what"), 1, "2", 32);
+    refused_import(&(thirty.clone() + "x\nx\nx\nx\nx\nx\n"), 1, "2", 32);
+    refused_import(&(thirty + "\nhour=3"), 1, "3", 1);
     let unended = good();
-    refused(&unended[..unended.len() - 2], 1, "23", 5);
+    refused_import(&unended[..unended.len() - 2], 1, "23", 5);
     let text = good();
-    refused(&format!("{}x\n", &text[..text.len() - 1]), 1, "23", 6);
+    refused_import(&format!("{}x\n", &text[..text.len() - 1]), 1, "23", 6);
 }
 
 #[test]
 fn empty_lines_move_blocks_down() {
-    refused(&with_line_before(&good(), line_of(4, 1), ""), 1, "4", 1);
-    refused(&with_line_before(&good(), 3, ""), 1, "0", 1);
+    refused_import(&with_line_before(&good(), line_of(4, 1), ""), 1, "4", 1);
+    refused_import(&with_line_before(&good(), 3, ""), 1, "0", 1);
 }
 
 #[test]
 fn order_stands_between_range_and_seconds() {
     let other = with_value(&good(), line_of(4, 1), "hour", "5");
-    refused(&other, 3, "4", 1);
-    refused(&with_value(&other, line_of(4, 5), "s", "899"), 3, "4", 1);
-    refused(&with_value(&other, line_of(4, 5), "s", "901"), 2, "4", 5);
+    refused_import(&other, 3, "4", 1);
+    refused_import(&with_value(&other, line_of(4, 5), "s", "899"), 3, "4", 1);
+    refused_import(&with_value(&other, line_of(4, 5), "s", "901"), 2, "4", 5);
     let both = with_value(&other, line_of(4, 5), "s", "901");
-    refused(&with_value(&both, line_of(4, 3), "s", "x"), 1, "4", 3);
+    refused_import(&with_value(&both, line_of(4, 3), "s", "x"), 1, "4", 3);
 }
 
 #[test]
@@ -148,7 +136,7 @@ fn keys_and_numbers() {
         (4, "def"),
     ] {
         for value in ["07", "-0", "+5", "-", "", "12345678"] {
-            refused(
+            refused_import(
                 &with_value(&text, line_of(9, line), key, value),
                 1,
                 "9",
@@ -165,7 +153,7 @@ fn keys_and_numbers() {
         (2, "s=900 cut=0 prof=0 rten=0 lbmp=0 bid=0 def=0 x=1"),
         (2, "s=900 cut=0  prof=0 rten=0 lbmp=0 bid=0 def=0"),
     ] {
-        refused(&with_line(&text, line_of(9, line), bad), 1, "9", line);
+        refused_import(&with_line(&text, line_of(9, line), bad), 1, "9", line);
     }
 }
 
@@ -186,11 +174,14 @@ fn ranges() {
     ] {
         for outside in [low - 1, high + 1] {
             let text = with_value(&text, line_of(9, line), key, &outside.to_string());
-            refused(&text, 2, "9", line);
+            refused_import(&text, 2, "9", line);
         }
         for inside in [low, high] {
             let text = with_value(&text, line_of(9, line), key, &inside.to_string());
-            assert!(!print(&text).starts_with("refused=2"), "{key}={inside}");
+            assert!(
+                !print_import(&text).starts_with("refused=2"),
+                "{key}={inside}"
+            );
         }
     }
 }
@@ -204,7 +195,7 @@ fn which_intervals_count() {
     pays(&with_hour(9, |h| h.intervals[0].bid = 4), 24);
     pays(&import_of(7, 1, &one_cent_imports()), 0);
     let cts = import_of(7, 1, &one_cent_imports());
-    refused(&with_value(&cts, line_of(2, 2), "s", "899"), 5, "2", 0);
+    refused_import(&with_value(&cts, line_of(2, 2), "s", "899"), 5, "2", 0);
 }
 
 #[test]

@@ -152,6 +152,17 @@ pub fn one_cent_imports() -> Vec<ImportHour> {
     (0..24).map(one_cent_import).collect()
 }
 
+/// What `import` prints of a text.
+pub fn print_import(text: &str) -> String {
+    second::import_text(text.as_bytes())
+}
+
+#[track_caller]
+pub fn refused_import(text: &str, check: u8, hour: &str, line: usize) {
+    let printed = format!("refused={check} hour={hour} at={line}\n");
+    assert_eq!(print_import(text), printed, "{text}");
+}
+
 /// An import of these blocks.
 pub fn import_of(import: i64, cts: i64, hours: &[ImportHour]) -> String {
     let mut text = String::new();
