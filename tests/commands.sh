@@ -3,19 +3,20 @@
 # <!-- run --> is run in the repository, with the programs on the path, and has to
 # print the block behind <!-- prints -->, where ` ...` leaves out a line's rest.
 #
-#   sh commands.sh PATH-OF-HOUR PATH-OF-DAY PATH-OF-IMPORT
+#   sh commands.sh PATH-OF-HOUR PATH-OF-DAY PATH-OF-IMPORT PATH-OF-UP PATH-OF-DOWN
 #
 # The command for the rows that exclude an hour is then tried on every hour of
 # other headers, against what the program pays. The last line counts what passed
 # and what failed; the status is 1 if anything failed.
 . "$(dirname -- "$0")/common.sh"
 
-three_programs commands "$@"
+all_programs commands "$@"
 work=$(cd "$work" && pwd) || exit 2
 root=$(cd "$(dirname -- "$0")/.." && pwd) || exit 2
 page=$root/docs/answers.md
 
-mkdir "$work/bin" && cp "$1" "$work/bin/hour" && cp "$2" "$work/bin/day" && cp "$3" "$work/bin/import" || exit 2
+mkdir "$work/bin" && cp "$1" "$work/bin/hour" && cp "$2" "$work/bin/day" && cp "$3" "$work/bin/import" && cp "$4" "$work/bin/up" &&
+    cp "$5" "$work/bin/down" || exit 2
 PATH=$work/bin:$PATH
 cd "$root" || exit 2
 

@@ -35,6 +35,15 @@ three_programs() {
     import=$4
 }
 
+# The same for a script that is told the paths of all programs.
+all_programs() {
+    [ $# -eq 6 ] || usage "$1.sh PATH-OF-HOUR PATH-OF-DAY PATH-OF-IMPORT PATH-OF-UP PATH-OF-DOWN"
+    name=$1
+    shift
+    need "$@"
+    work_in "$name"
+}
+
 # A folder of this name for the script's files, as long as it runs: $work.
 work_in() {
     work=target/$1.$$

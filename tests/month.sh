@@ -2,7 +2,7 @@
 # A month of sheets, by the commands that README has: they are taken out of it,
 # and run in the home of a user who has installed the programs as it says.
 #
-#   sh month.sh PATH-OF-HOUR PATH-OF-DAY PATH-OF-IMPORT
+#   sh month.sh PATH-OF-HOUR PATH-OF-DAY PATH-OF-IMPORT PATH-OF-UP PATH-OF-DOWN
 #
 # Each way of running them, on this machine and by GNU parallel, goes through
 # corrected and added sheets, answers that are cut or gone, runs that are killed
@@ -10,22 +10,17 @@
 # its cases are skipped, and that is said. The last line counts what passed and
 # what failed; the status is 1 if anything failed.
 . "$(dirname -- "$0")/common.sh"
+. "$(dirname -- "$0")/user.sh"
 
-three_programs month "$@"
+all_programs month "$@"
 need setsid
 work=$(cd "$work" && pwd) || exit 2
-root=$(cd "$(dirname -- "$0")/.." && pwd) || exit 2
 clone=$work/clone
 home=$work/home
 user=$work/user
 samples=$root/samples
 
 # --- What README says.
-
-# The commands of README's section with this heading.
-commands() {
-    awk -v heading="## $1" '/^## / { inside = $0 == heading } inside && /^    / { print substr($0, 5) }' "$root/README.md"
-}
 
 # That one of the month's commands which has the first words and not the second.
 command_with() {
@@ -38,19 +33,14 @@ there=$(command_with 'settle day sheets parallel --sshloginfile nodes' none)
 imports=$(command_with 'settle import imports' none)
 totals=$(command_with 'grep -rL' none)
 refusals=$(command_with 'grep -rH' none)
-for found in "$install" "$here" "$there" "$imports" "$totals" "$refusals"; do
-    if [ -z "$found" ]; then
-        fail "README has not the commands that are tested here"
-        finish
-        exit
-    fi
-done
+found "$install" "$here" "$there" "$imports" "$totals" "$refusals"
 
 # --- The user: programs as installed from a clone that is gone, and sheets.
 
 mkdir -p "$clone/target/bin" "$clone/tools" "$home" "$user" || exit 2
 cp "$1" "$clone/target/bin/hour" && cp "$2" "$clone/target/bin/day" && cp "$3" "$clone/target/bin/import" &&
-    cp "$root/tools/settle" "$clone/tools" || exit 2
+    cp "$4" "$clone/target/bin/up" && cp "$5" "$clone/target/bin/down" &&
+    cp "$root/tools/settle" "$root/tools/archive" "$clone/tools" || exit 2
 if (cd "$clone" && HOME=$home && export HOME && sh -e -c "$install") 2>"$work/err"; then
     pass
 else
@@ -60,12 +50,6 @@ rm -rf "$clone"
 # The folder that README puts on the path.
 bin=$(HOME=$home && eval "$(echo "$install" | grep '^PATH=')" && echo "${PATH%%:*}")
 cp -p "$bin/day" "$work/day" || exit 2
-
-# Runs a command as the user does, and keeps its status.
-as_user() {
-    (cd "$user" && HOME=$home PATH=$bin:$PATH within 60 sh -c "$1") >"$work/out" 2>"$work/err"
-    status=$?
-}
 
 # A sheet of the user's, and the answer that it has to have in the end.
 put() {

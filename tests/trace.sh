@@ -27,7 +27,7 @@ cd "$root" || exit 2
 
 # The pages that state what is proved of the definitions.
 fronts='demands/proofs/Demands tariff/proofs/Demands tariff/proofs/Imports sheet/proofs/BlockDemands
-    marks/proofs/Far ledger/proofs/DayDemands imports/proofs/ImportDemands spelling/proofs/Spelling'
+    marks/proofs/Far ledger/proofs/DayDemands imports/proofs/ImportDemands spelling/proofs/Spelling archived/proofs/ArchiveDemands'
 
 work_in trace
 tab=$(printf '\t')

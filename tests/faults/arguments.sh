@@ -1,6 +1,6 @@
 # Arguments. A program takes none: given any, it prints no answer, which might
 # be taken for that of a file, and says on standard error what it reads, what it
-# prints and where to read on. Read by faults.sh.
+# prints or writes and where to read on. Read by faults.sh.
 
 # Stands directly behind a run.
 told_of_use() {
@@ -11,7 +11,7 @@ told_of_use() {
         fail "$1: it prints $(head -n 1 "$work/got")"
     elif [ "$(wc -l <"$work/err")" -gt 3 ]; then
         fail "$1: it says more than three lines"
-    elif ! grep -q "^${about%: } takes no argument.*standard input" "$work/err" || ! grep -q '^It prints ' "$work/err" ||
+    elif ! grep -q "^${about%: } takes no argument.*standard input" "$work/err" || ! grep -q '^It \(prints\|writes\) ' "$work/err" ||
         ! grep -q 'docs/sheet.md.*docs/answers.md' "$work/err"; then
         fail "$1: it does not say how it is used"
     else

@@ -127,18 +127,12 @@ sheet_moves() {
 run_killed() {
     fresh
     replace_program "said=\$('$work/day'); printf %.9s \"\$said\"; echo >'$work/halfway'; sleep 10; printf '%s\n' \"\${said#?????????}\""
-    rm -f "$work/halfway"
-    (cd "$user" && HOME=$home PATH=$bin:$PATH exec setsid sh -c "$way") >/dev/null 2>&1 &
-    running=$!
-    n=0
-    while [ ! -s "$work/halfway" ] && [ "$n" -lt 200 ]; do
-        sleep 0.1
-        n=$((n + 1))
-    done
-    # Itself and whatever it started. Left alone, it would end with whole answers.
-    kill "-$1" "-$running"
-    wait "$running" 2>/dev/null
-    if [ "$n" -eq 200 ]; then
+    start_as_user "$way"
+    is_halfway
+    began=$?
+    # Left alone, it would end with whole answers.
+    kill_it "$1"
+    if [ "$began" -ne 0 ]; then
         fail "a run that is killed by $1: it did not begin"
     elif find "$user/sheets" -name '*.out' | grep -q .; then
         fail "a run that is killed by $1: it left an answer"

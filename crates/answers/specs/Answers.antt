@@ -14,6 +14,11 @@ feed = LF ∷ []
 abbrev pub refusedLine : (number place : ℕ) → List ℕ
 refusedLine number place = counted (bytes "refused=") number ++ counted (bytes " at=") place ++ feed
 
+-- what is said of a sheet that is only judged: its refusal, or nothing
+abbrev pub refusalText : Verdict → List ℕ
+refusalText clear = []
+refusalText (fault number place) = refusedLine number place
+
 -- a payment behind the key and number of what is paid
 abbrev pub payLine : List ℕ → ℤ → (cents : ℤ) → List ℕ
 payLine key name cents = valued key name ++ valued (bytes " pay=") cents ++ feed

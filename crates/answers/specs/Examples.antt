@@ -2,12 +2,12 @@
 use mathlib.Core.Path.{_≡_, refl}
 use mathlib.Core.List.{[], _∷_}
 use lib.IntN.{pos, negsuc}
-use Rattle.tariff.specs.Reply.{paid, refused, ORDER, SECONDS, clear, fault}
+use Rattle.tariff.specs.Reply.{paid, refused, ORDER, SECONDS, BACK, clear, fault}
 use Rattle.tariff.specs.Import as import
 use Rattle.text.specs.Text.{bytes}
 use Rattle.text.specs.Decimal.{natural}
 use Rattle.tariff.specs.Total.{total, noTotal}
-use Rattle.answers.specs.Answers.{numbered, answerText, dayLines, importLine}
+use Rattle.answers.specs.Answers.{numbered, refusalText, answerText, dayLines, importLine}
 
 pub listing-printed : answerText (pos 14) (pos 27000000000 ∷ pos 72900000000 ∷ negsuc 8999999999 ∷ pos 0 ∷ []) (paid (pos 90900000000) (pos 25250))
     ≡ bytes "i=1 grains=27000000000\ni=2 grains=72900000000\ni=3 grains=-9000000000\ni=4 grains=0\nhour=14 pay=25250\n"
@@ -30,6 +30,14 @@ one-hour = refl
 pub bad-header : dayLines (fault 2 3) [] noTotal ≡ bytes "refused=2 at=3\n"
 unfolding natural
 bad-header = refl
+
+-- a sheet that does not go down, and one that does
+pub back-at-2 : refusalText (fault BACK 2) ≡ bytes "refused=9 at=2\n"
+unfolding natural
+back-at-2 = refl
+
+pub not-refused : refusalText clear ≡ []
+not-refused = refl
 
 pub import-paid : importLine (import.paid (pos 42) (pos 0) (pos 120)) ≡ bytes "import=42 pay=120\n"
 unfolding natural

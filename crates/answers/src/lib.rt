@@ -7,7 +7,7 @@ ghost use Rattle.tariff.specs.Total.{toldTotal, toldAll};
 ghost use Rattle.text.specs.Text.{bytes};
 ghost use Rattle.page.specs.Page.{Put};
 ghost use Rattle.page.specs.Numerals.{counted};
-ghost use Rattle.answers.specs.Answers.{feed, refusedLine, payLine, intervalLine, numbered, answerText, hourLine, totalLine, dayLines, importLine};
+ghost use Rattle.answers.specs.Answers.{feed, refusedLine, refusalText, payLine, intervalLine, numbered, answerText, hourLine, totalLine, dayLines, importLine};
 use tariff::Answer;
 use tariff::Cents;
 use tariff::Check;
@@ -30,6 +30,16 @@ fn put_refusal(page: &mut [u8], at: usize, check: Check) -> usize
 {
     let behind_number = page::put_count(page, at, b"refused=", tariff::number_of(check));
     put_place(page, behind_number, tariff::place_of(check))
+}
+
+// The refusal of a sheet that is only judged, or nothing.
+pub fn put_found(page: &mut [u8], at: usize, found: Found) -> usize
+    ensures { λ r. ⌜ Put (now (page .entry)) at (refusalText (shown found)) (now (page .exit)) r ⌝ }
+{
+    match found {
+        Found::Nothing => at,
+        Found::Fault(check) => put_refusal(page, at, check),
+    }
 }
 
 fn put_pay(page: &mut [u8], at: usize, key: &[u8], name: i64, cents: Cents) -> usize

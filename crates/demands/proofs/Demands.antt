@@ -1,10 +1,11 @@
--- The demands, on one page: of the programs `hour`, `day` and `import`, of the block call for other programs, and of what they settle.
+-- The demands, on one page: of the programs `hour`, `day` and `import`, of the block call for other programs, and of what they settle; and the promises of
+-- document 02's requests that are none of the three.
 -- A text is a list of bytes, any bytes. Each demand is proved by citing what proves it; the words are the documents', in specs/ of each crate.
 -- Witness.antt has small texts, and for curve that is added to a day a day of one hour, that meet the conditions, so that none is empty.
 use mathlib.Core.Path.{_≡_, sym, _∙_}
 use mathlib.Core.Bool.{Bool, true, false}
 use mathlib.Core.List.{List, [], _++_}
-use mathlib.Core.Logic.{_↔_}
+use mathlib.Core.Logic.{_↔_, _⊎_}
 use Prim.Native.Nat.{ℕ, suc, _+_, _*_, _<_, _≤_}
 use lib.IntN.{ℤ, pos}
 use lib.ListN.{length, take, getD}
@@ -14,7 +15,8 @@ use Rattle.tariff.specs.declared.Hour.{Hour}
 use Rattle.tariff.specs.declared.Expected.{Expected}
 use Rattle.tariff.specs.declared.Expected.the-variants.{Any, Says}
 use Rattle.tariff.specs.Units.{centsOf}
-use Rattle.tariff.specs.Reply.{paid, refused, DERATE, REACH, clear}
+use Rattle.tariff.specs.Sheet.{SHORTEST-DAY, LONGEST-DAY}
+use Rattle.tariff.specs.Reply.{paid, refused, RANGE, DERATE, REACH, BACK, clear, fault}
 use Rattle.tariff.specs.Hour.{contribution}
 use Rattle.tariff.specs.Eligible.{excluded}
 use Rattle.tariff.specs.Demand.{MustPrice, priceIn, FirstUnpriced, FirstExceeded, UnpricedBeforeDerate, ExceededBeforeReach, Lawful, WholeHour, Passes, Extends}
@@ -27,6 +29,7 @@ use Rattle.intake.specs.declared.Intake.{Intake}
 use Rattle.intake.specs.Intake.{PIECES, keptOf, afterAll, storeAll, atFirst}
 use Rattle.intake.specs.declared.squeeze.Squeeze.{Squeeze}
 use Rattle.intake.specs.Squeeze.{squeezedBy, squeezeAfter}
+use Rattle.intake.specs.Front.{Decides}
 use Rattle.intake.proofs.Kept.{parts, room-store}
 use Rattle.intake.proofs.Squeezes.{split}
 use Rattle.blocks.specs.Block.{blockOf, read}
@@ -45,7 +48,8 @@ use Rattle.sheet.proofs.BlockDemands.{
   adding-curve-to-a-block-changes-nothing,
   behind-the-close,
 }
-use Rattle.header.specs.Header.{marksOf}
+use Rattle.header.specs.Layout.{layoutForm}
+use Rattle.header.specs.Header.{isForm2, layoutOf, hoursOf, headerFault, marksOf}
 use Rattle.ledger.specs.Day.{frontOf, dayReply, surplus, dayTotal}
 use Rattle.tariff.specs.Total.{total, Pays, paidCents}
 use Rattle.ledger.specs.Demand.{PricedAlike, DaysApart, BothRead}
@@ -60,6 +64,19 @@ use Rattle.imports.specs.Demand.{PaidBy}
 use Rattle.imports.proofs.ImportDemands.{paid-exactly-when-unrefused}
 use Rattle.printed.specs.Printed.{LONGEST, hourText, dayText, importText}
 use Rattle.printed.proofs.Fits.{hour-fits, day-fits, import-fits}
+use Rattle.archive.specs.declared.Way.{Way}
+use Rattle.archive.specs.declared.Way.the-variants.{Down}
+use Rattle.archive.specs.Move.{back, firstLines, moveFault, movedText, formFor, formSaid, Moves}
+use Rattle.archived.proofs.ArchiveDemands.{
+  what-moves-comes-back,
+  only-the-first-lines-are-rewritten,
+  what-is-printed-stays,
+  range-at-1-exactly-for-the-wrong-way-or-another-form,
+  back-exactly-when-another-count-goes-down,
+  of-a-refused-sheet-nothing-is-written,
+  what-came-is-refused-as-the-whole,
+  what-came-and-the-rest-is-the-moved-sheet,
+}
 use Rattle.sheet.proofs.settle_block.Statement as block
 use Rattle.sheet.proofs.settle_block.Met as block-is
 use Rattle.culvertjig.proofs.culvertjig_block.Statement as library
@@ -70,6 +87,8 @@ use Rattle.printed.proofs.day_text.Statement as day
 use Rattle.printed.proofs.day_text.Met as day-is
 use Rattle.printed.proofs.import_text.Statement as import-day
 use Rattle.printed.proofs.import_text.Met as import-is
+use Rattle.archive.proofs.move_sheet.Statement as moving
+use Rattle.archive.proofs.move_sheet.Met as moving-is
 use Rattle.demands.specs.Listing.{listing}
 use Rattle.demands.proofs.Blocks.{paid-as, as-paid, row-of-a-refused}
 use Rattle.demands.proofs.Printed.{lent, kept-hour, kept-day, kept-import, append-day, append-import, same-hour, same-answer, days-printed-alike, curve-added-to-a-day}
@@ -316,3 +335,45 @@ pub adding-curve-to-a-day-never-moves-a-cent :
     → BothRead (frontOf s) (frontOf t) (λ k h j. Lawful j (Says (pos k) (frontOf s .hours)) × Extends (h .da) (j .da) × Extends (h .rt) (j .rt))
     → dayText s ≡ dayText t
 adding-curve-to-a-day-never-moves-a-cent s t = curve-added-to-a-day (frontOf s) (frontOf t)
+
+-- ==== The archive, up and back (document 02, request 2): `Moves way s t` says that the sheet s is not refused on its way, and becomes t
+
+pub the-moving-call-answers : {M : Type 1} → moving.statement M
+the-moving-call-answers = moving-is.met
+
+-- Up and then down gives the same bytes, and down and then up.
+pub a-moved-sheet-comes-back : (way : Way) (s t : List ℕ) → Moves way s t → Moves (back way) t s
+a-moved-sheet-comes-back = what-moves-comes-back
+
+-- Only the header is rewritten: behind its first lines every byte is the old one.
+pub only-its-first-lines-are-rewritten :
+    (way : Way) (s t : List ℕ) → Moves way s t → (rest : List ℕ) × (s ≡ firstLines way ++ rest) × (t ≡ firstLines (back way) ++ rest)
+only-its-first-lines-are-rewritten = only-the-first-lines-are-rewritten
+
+-- What `day` prints of a sheet is, byte for byte, what it prints of the moved one.
+pub a-moved-sheet-is-printed-alike : (way : Way) (s t : List ℕ) → Moves way s t → dayText s ≡ dayText t
+a-moved-sheet-is-printed-alike = what-is-printed-stays
+
+-- BACK exactly when 23 or 25 hours go down and nothing else refuses; RANGE at line 1 exactly for the wrong way or another form number.
+pub back-exactly-when-23-or-25-hours-go-down :
+    (way : Way) (s : List ℕ) (place : ℕ)
+    → (moveFault way s ≡ fault BACK place)
+    ↔ ((way ≡ Down) × (place ≡ 2) × (headerFault s ≡ clear) × (isForm2 s ≡ true) × ((hoursOf s ≡ SHORTEST-DAY) ⊎ (hoursOf s ≡ LONGEST-DAY)))
+back-exactly-when-23-or-25-hours-go-down = back-exactly-when-another-count-goes-down
+
+pub range-at-1-exactly-when-line-1-says-another-form :
+    (way : Way) (s : List ℕ) → (moveFault way s ≡ fault RANGE 1) ↔ ((layoutForm (layoutOf s) (hoursOf s) s ≡ clear) × (formSaid s ≡ formFor way → ⊥))
+range-at-1-exactly-when-line-1-says-another-form = range-at-1-exactly-for-the-wrong-way-or-another-form
+
+-- On a refusal nothing is written.
+pub a-refused-sheet-writes-nothing : (way : Way) (s : List ℕ) (number place : ℕ) → moveFault way s ≡ fault number place → movedText way s ≡ []
+a-refused-sheet-writes-nothing = of-a-refused-sheet-nothing-is-written
+
+-- Of a sheet of any length the front that was read decides, and what is written of it, and then the rest as it comes, is the moved sheet.
+pub the-front-and-the-rest-are-the-moved-sheet :
+    (way : Way) (text more : List ℕ)
+    → Decides text (length (squeezed text))
+    → (moveFault way (squeezed text) ≡ moveFault way (text ++ more))
+    × (moveFault way (text ++ more) ≡ clear → movedText way (squeezed text) ++ more ≡ movedText way (text ++ more))
+the-front-and-the-rest-are-the-moved-sheet way text more enough =
+    (what-came-is-refused-as-the-whole way text more enough, what-came-and-the-rest-is-the-moved-sheet way text more enough)

@@ -1,12 +1,12 @@
 -- Small texts that meet the conditions of the front page, with curves that differ, and its theorems said of them: none is empty. They are
--- specs/Small.antt's: a block with a plain curve, with another price where none is needed, and with a longer curve.
+-- specs/Small.antt's: a block with a plain curve, with another price where none is needed, and with a longer curve. And archive's examples, a sheet in both forms.
 use mathlib.Core.Path.{_≡_, refl, sym, ap, _∙_}
 use mathlib.Core.Bool.{true, false}
 use mathlib.Core.List.{List, [], _++_}
 use Prim.Native.Nat.{ℕ, zero, suc, _<_}
 use native.Mathlib.Omega.{arith}
 use lib.IntN.{ℤ, pos}
-use lib.ListN.{replicate}
+use lib.ListN.{length, replicate}
 use lib.Signed.{_≤ℤ_, _<ℤ_}
 use Rattle.exact.proofs.Apart.{impossible}
 use Rattle.exact.proofs.Parts.{arithℤ}
@@ -36,6 +36,13 @@ use Rattle.ledger.proofs.HourOfDay.{read-reply}
 use Rattle.ledger.proofs.SheetFront.{front-append}
 use Rattle.ledger.proofs.DayDemands.{sheets-with-one-header-are-apart}
 use Rattle.imports.specs.Import.{countIn, hoursIn}
+use Rattle.lines.specs.Squeezed.{squeezed}
+use Rattle.intake.specs.Squeeze.{squeezeNext, squeezeAfter}
+use Rattle.intake.specs.Front.{Decides}
+use Rattle.intake.specs.Front.Decides.{closed}
+use Rattle.archive.specs.declared.Way.the-variants.{Up, Down}
+use Rattle.archive.specs.Move.{moveFault, Moves}
+use Rattle.archive.specs.Examples.{one, two, goes-up}
 use Rattle.printed.specs.Printed.{hourText, dayPage, dayText, importText}
 use Rattle.demands.specs.Small.{first, curves, rest, block, hour, header, day, plain, other, longer, plainRead, otherRead, longerRead}
 use Rattle.demands.proofs.Opened.{reading, cutting, judging, pricing, checking, settling}
@@ -44,6 +51,9 @@ use Rattle.demands.proofs.Demands.{
   such-blocks-are-printed-alike,
   such-days-are-printed-alike,
   adding-curve-changes-no-byte-of-an-hour,
+  a-moved-sheet-comes-back,
+  a-moved-sheet-is-printed-alike,
+  the-front-and-the-rest-are-the-moved-sheet,
 }
 use Rattle.demands.proofs.Printed.{curve-added-to-a-day}
 
@@ -290,3 +300,17 @@ behind-this-import = refl
 
 pub no-byte-matters-behind-this-import : (t : List ℕ) → importText (longImport ++ t) ≡ importText longImport
 no-byte-matters-behind-this-import t = behind-the-last-block-no-byte-matters longImport t .1 behind-this-import
+
+-- ---- a sheet that moves up, and is printed alike; and one that is read in two parts, of which the first ends behind its header
+moved-comes-back : Moves Down two one
+moved-comes-back = a-moved-sheet-comes-back Up one two goes-up
+
+moved-printed-alike : dayText one ≡ dayText two
+moved-printed-alike = a-moved-sheet-is-printed-alike Up one two goes-up
+
+one-decides : Decides one (length (squeezed one))
+unfolding squeezeAfter squeezeNext
+one-decides = closed refl
+
+read-in-parts : (more : List ℕ) → moveFault Up (squeezed one) ≡ moveFault Up (one ++ more)
+read-in-parts more = the-front-and-the-rest-are-the-moved-sheet Up one more one-decides .0

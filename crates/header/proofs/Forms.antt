@@ -1,26 +1,36 @@
 -- Both forms: what their lines have in common, and what a header's first lines decide.
 use mathlib.Core.Path.{_≡_, refl, sym, _∙_, ap}
-use mathlib.Core.Bool.{Bool, true, false}
+use mathlib.Core.Bool.{Bool, true, false, false≢true}
 use mathlib.Core.List.{List}
-use Prim.Native.Nat.{ℕ, _+_, _<_, _≤_}
+use Prim.Native.Nat.{ℕ, suc, _+_, _<_, _≤_}
 use native.Mathlib.Omega.{arith}
-use lib.Dec.{lit<}
-use lib.IntN.{ℤ, pos}
+use borrow.Author.Tests.{eqb-true, leb-true}
+use lib.Dec.{eqb, leb, lit<}
+use lib.IntN.{ℤ, pos, negsuc}
 use lib.ListN.{getD, length}
 use Rattle.exact.specs.Choice.{if_then_else_}
-use Rattle.tariff.specs.Sheet.{USUAL-DAY, LONGEST-DAY, isCount}
+use Rattle.tariff.specs.Sheet.{USUAL-DAY, LONGEST-DAY, isCount, allTo, liesIn}
 use Rattle.tariff.specs.Reply.{RANGE, clear}
 use Rattle.tariff.proofs.Counts.{hours-few}
+use Rattle.tariff.proofs.Tests.{all-at, and-left, and-right}
 use Rattle.text.specs.declared.Next.{Next}
-use Rattle.keys.specs.Keys.{HOURS-LINE, RTC-LINE, CAT-LINE, X1-LINE, X2-LINE, X3-LINE, X4-LINE, X5-LINE, X6-LINE}
+use Rattle.keys.specs.Keys.{HOURS-LINE, UNIT-LINE, RTC-LINE, CAT-LINE, X1-LINE, X2-LINE, X3-LINE, X4-LINE, X5-LINE, X6-LINE}
 use Rattle.lines.specs.Line.{placeIn}
 use Rattle.header.specs.declared.layout.Line.{Line}
 use Rattle.header.specs.declared.layout.Line.the-variants.{Row}
 use Rattle.header.specs.declared.heads.Kind.{Kind}
 use Rattle.header.specs.Layout.{lineIn, saidAt, headerLine, linePlace, numberFrom, lineInRange, layoutRange, layoutFault, lineOf, numberOn}
-use Rattle.header.specs.Header.{CATEGORIES, MARKS, form2, layoutBy, isForm2, countOf, layoutOf, hoursOf, headerFault, marksBy, marksOf}
+use Rattle.header.specs.Header.{CATEGORIES, MARKS, unitAndMarks, form1, form2, layoutBy, isForm2, countOf, layoutOf, hoursOf, headerFault, marksBy, marksOf}
 use Rattle.header.specs.Places.{Stands, Placed, KindRead}
 use Rattle.header.proofs.HeaderLines.{none-refused, isInRange, areKeyed, stands}
+
+-- ---- a number whose range has one number only
+pub one-number : (k : ℕ) (z : ℤ) → liesIn (pos k) (pos k) z ≡ true → pos k ≡ z
+one-number k (pos n) e =
+    let least = leb-true k n (and-left (leb k n) (leb n k) e) in
+    let most = leb-true n k (and-right (leb k n) (leb n k) e) in
+    let same : k ≡ n = omega arith in ap pos same
+one-number k (negsuc n) e = absurd (false≢true e)
 
 -- ---- their lines
 
@@ -77,6 +87,29 @@ rows-behind two e = rw e (rows-in two)
 pub row-stands : (two : Bool) (hours : ℕ) (s at : List ℕ) (p : Placed (layoutBy two true) hours s at) {key admitted j : ℕ} → RowOn two key admitted j
     → j < length (layoutBy two true) → Stands hours (Row key admitted) s (getD at j 0)
 row-stands two hours s at p {j = j} r u = stands (layoutBy two true) hours s at p j (r .0) (lines-keyed two true) u
+
+-- ---- the lines from `unit` on, which both forms have, stand behind the d first lines of a layout
+pub record UnitBehind (layout : List Line) (d : ℕ) : Type 0 where
+  pub long : length layout ≡ d + 10
+  pub line : (j : ℕ) → lineIn layout (d + j) ≡ lineIn (unitAndMarks true) j
+  pub key : (j : ℕ) → j < 9 → lineOf (UNIT-LINE + j) layout ≡ d + j
+
+abbrev isBehind : List Line → (d : ℕ) → ℕ → Bool
+isBehind layout d j = eqb (lineOf (UNIT-LINE + j) layout) (d + j)
+
+unit-in : (layout : List Line) (d : ℕ) → length layout ≡ d + 10 → ((j : ℕ) → lineIn layout (d + j) ≡ lineIn (unitAndMarks true) j)
+    → allTo (isBehind layout d) 9 ≡ true → UnitBehind layout d
+unit-in layout d long line keyed = record { long = long; line = line; key = λ j u. eqb-true _ _ (all-at (isBehind layout d) 9 j keyed u) }
+
+-- form 2 has a line more in front of them
+abbrev pub linesBefore : (two : Bool) → ℕ
+linesBefore true = 2
+linesBefore false = 1
+
+pub unit-behind : (two : Bool) → UnitBehind (layoutBy two true) (linesBefore two)
+unfolding allTo
+unit-behind true = unit-in (form2 true) 2 refl (λ j. let e : 2 + j ≡ suc (suc j) = omega arith in rw e) refl
+unit-behind false = unit-in form1 1 refl (λ j. let e : 1 + j ≡ suc j = omega arith in rw e) refl
 
 -- ---- the count
 

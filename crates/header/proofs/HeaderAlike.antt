@@ -17,7 +17,8 @@ use Rattle.tariff.specs.Reply.{FORM, RANGE, Verdict, clear, fault, unless, _the
 use Rattle.tariff.proofs.Checks.{first-same, then-clear}
 use Rattle.tariff.proofs.Tests.{all-same}
 use Rattle.text.specs.declared.Next.{Next}
-use Rattle.keys.specs.Keys.{HOURS-LINE, RTC-LINE, CAT-LINE}
+use Rattle.text.specs.declared.Next.the-variants.{Wrong}
+use Rattle.keys.specs.Keys.{HOURS-LINE, RTC-LINE, CAT-LINE, X1-LINE, X2-LINE, X3-LINE, X4-LINE, X5-LINE, X6-LINE}
 use Rattle.lines.specs.Line.{isAt, andThen}
 use Rattle.marks.proofs.Rows.{word-same}
 use Rattle.header.specs.declared.layout.Line.{Line}
@@ -35,12 +36,19 @@ SaysSame hours (Row key admitted) s t x y =
 SaysSame hours (Run key) s t x y = Unit {0}
 SaysSame hours Close s t x y = Unit {0}
 
+-- where it stands in neither
+pub nothing-said : (hours : ℕ) (line : Line) (s t : List ℕ) → SaysSame hours line s t Wrong Wrong
+nothing-said hours (Number key least most) s t = refl
+nothing-said hours (Row key admitted) s t = λ printed. absurd (false≢true printed)
+nothing-said hours (Run key) s t = tt
+nothing-said hours Close s t = tt
+
 pub record Alike (layout : List Line) (hours : ℕ) (s t : List ℕ) : Type 0 where
   pub placed : (j : ℕ) → j ≤ length layout → isAt (linePlace layout hours j s) ≡ isAt (linePlace layout hours j t)
   pub says : (j : ℕ) → j < length layout → SaysSame hours (lineIn layout j) s t (linePlace layout hours j s) (linePlace layout hours j t)
 
 -- ---- the two checks
-range-same : (hours : ℕ) (line : Line) (s t : List ℕ) (x y : Next) → isAt (andThen x (headerLine hours line s)) ≡ true → SaysSame hours line s t x y
+pub range-same : (hours : ℕ) (line : Line) (s t : List ℕ) (x y : Next) → isAt (andThen x (headerLine hours line s)) ≡ true → SaysSame hours line s t x y
     → lineInRange hours line s x ≡ lineInRange hours line t y
 unfolding lineInRange
 range-same hours (Number key least most) s t x y p e = ap (liesIn least most) e
@@ -73,42 +81,36 @@ module _ {layout : List Line} {hours : ℕ} {s t : List ℕ} (o : Alike layout h
           ap (λ (v : Verdict). v then layoutRange layout hours s) e
           ∙ sym (ap (λ (v : Verdict). v then layoutRange layout hours t) (sym form-same ∙ e))
 
--- ---- the marks, where the rows are judged
-rtc-on : (two : Bool) → Number RTC-LINE (pos 0) (pos 1) ≡ lineIn (layoutBy two true) (lineOf RTC-LINE (layoutBy two true))
-rtc-on true = refl
-rtc-on false = refl
+-- ---- the marks, of two layouts whose rows say the same
+abbrev pub DigitsSame : (L M : List Line) → (hours : ℕ) → (s t : List ℕ) → (key : ℕ) → Type 0
+DigitsSame L M hours s t key = (h : ℕ) → h < hours → digitOn L hours key s h ≡ digitOn M hours key t h
 
-module _ (two : Bool) {hours : ℕ} {s t : List ℕ} (o : Alike (layoutBy two true) hours s t) (form : layoutForm (layoutBy two true) hours s ≡ clear) where
-  abbrev layout : List Line
-  layout = layoutBy two true
+pub record MarksSaid (L M : List Line) (hours : ℕ) (s t : List ℕ) : Type 0 where
+  pub rtc : numberOn L hours RTC-LINE s ≡ numberOn M hours RTC-LINE t
+  pub cat : DigitsSame L M hours s t CAT-LINE
+  pub x1 : DigitsSame L M hours s t X1-LINE
+  pub x2 : DigitsSame L M hours s t X2-LINE
+  pub x3 : DigitsSame L M hours s t X3-LINE
+  pub x4 : DigitsSame L M hours s t X4-LINE
+  pub x5 : DigitsSame L M hours s t X5-LINE
+  pub x6 : DigitsSame L M hours s t X6-LINE
 
-  said : (j : ℕ) {line : Line} → line ≡ lineIn layout j → j < length layout → SaysSame hours line s t (linePlace layout hours j s) (linePlace layout hours j t)
-  said j is u = subst (λ (line : Line). SaysSame hours line s t (linePlace layout hours j s) (linePlace layout hours j t)) (sym is) (o .says j u)
-
-  digits-said : {key admitted j : ℕ} → RowOn two key admitted j → j < length layout → (h : ℕ) → h < hours → digitOn layout hours key s h ≡ digitOn layout hours key t h
-  unfolding digitOn linePlace
-  digits-said {key} {j = j} is u =
-      let row = ap (λ (line : Line). isAt (andThen (linePlace layout hours j s) (headerLine hours line s))) (is .0) ∙ form-line layout hours s form j u in
-      subst (λ (k : ℕ). (h : ℕ) → h < hours → digitFrom key s (linePlace layout hours k s) h ≡ digitFrom key t (linePlace layout hours k t) h) (is .1)
-      (said j (is .0) u row)
-
-  word-said : {key admitted j : ℕ} → RowOn two key admitted j → j < length layout → rowWord layout hours key s ≡ rowWord layout hours key t
+module _ (L M : List Line) (hours : ℕ) (s t : List ℕ) where
+  word-said : (key : ℕ) → DigitsSame L M hours s t key → rowWord L hours key s ≡ rowWord M hours key t
   unfolding rowWord
-  word-said is u = word-same _ _ hours (λ h l. ap (λ (d : ℕ). eqb d 1) (digits-said is u h l))
+  word-said key same = word-same _ _ hours (λ h l. ap (λ (d : ℕ). eqb d 1) (same h l))
 
-  marks-said : marksBy layout hours s ≡ marksBy layout hours t
-  unfolding marksBy numberOn
-  marks-said =
-      let r = rows-behind two refl in
-      let all = r .all in
-      let rtc = said (lineOf RTC-LINE layout) (rtc-on two) (omega arith) in
-      let cat = up-same (digitOn layout hours CAT-LINE s) (digitOn layout hours CAT-LINE t) hours (digits-said (r .cat) (omega arith)) in
-      let x1 = word-said (r .x1) (omega arith) in
-      let x2 = word-said (r .x2) (omega arith) in
-      let x3 = word-said (r .x3) (omega arith) in
-      let x4 = word-said (r .x4) (omega arith) in
-      let x5 = word-said (r .x5) (omega arith) in
-      let x6 = word-said (r .x6) (omega arith) in
+  pub marks-said : MarksSaid L M hours s t → marksBy L hours s ≡ marksBy M hours t
+  unfolding marksBy
+  marks-said o =
+      let rtc = o .rtc in
+      let cat = up-same (digitOn L hours CAT-LINE s) (digitOn M hours CAT-LINE t) hours (o .cat) in
+      let x1 = word-said X1-LINE (o .x1) in
+      let x2 = word-said X2-LINE (o .x2) in
+      let x3 = word-said X3-LINE (o .x3) in
+      let x4 = word-said X4-LINE (o .x4) in
+      let x5 = word-said X5-LINE (o .x5) in
+      let x6 = word-said X6-LINE (o .x6) in
       λ i. record {
         rtc = eqZ (rtc i) (pos 1);
         cat = cat i ++ replicate (LONGEST-DAY - hours) 0;
@@ -120,20 +122,57 @@ module _ (two : Bool) {hours : ℕ} {s t : List ℕ} (o : Alike (layoutBy two tr
         x6 = x6 i;
       }
 
+-- those of one layout, where the rows are judged
+rtc-on : (two : Bool) → Number RTC-LINE (pos 0) (pos 1) ≡ lineIn (layoutBy two true) (lineOf RTC-LINE (layoutBy two true))
+rtc-on true = refl
+rtc-on false = refl
+
+module _ (two : Bool) {hours : ℕ} {s t : List ℕ} (o : Alike (layoutBy two true) hours s t) (form : layoutForm (layoutBy two true) hours s ≡ clear) where
+  abbrev layout : List Line
+  layout = layoutBy two true
+
+  said : (j : ℕ) {line : Line} → line ≡ lineIn layout j → j < length layout → SaysSame hours line s t (linePlace layout hours j s) (linePlace layout hours j t)
+  said j is u = subst (λ (line : Line). SaysSame hours line s t (linePlace layout hours j s) (linePlace layout hours j t)) (sym is) (o .says j u)
+
+  digits-said : {key admitted j : ℕ} → RowOn two key admitted j → j < length layout → DigitsSame layout layout hours s t key
+  unfolding digitOn linePlace
+  digits-said {key} {j = j} is u =
+      let row = ap (λ (line : Line). isAt (andThen (linePlace layout hours j s) (headerLine hours line s))) (is .0) ∙ form-line layout hours s form j u in
+      subst (λ (k : ℕ). (h : ℕ) → h < hours → digitFrom key s (linePlace layout hours k s) h ≡ digitFrom key t (linePlace layout hours k t) h) (is .1)
+      (said j (is .0) u row)
+
+  alike-marks : marksBy layout hours s ≡ marksBy layout hours t
+  unfolding numberOn
+  alike-marks =
+      let r = rows-behind two refl in
+      let all = r .all in
+      marks-said layout layout hours s t
+      (record {
+        rtc = said (lineOf RTC-LINE layout) (rtc-on two) (omega arith);
+        cat = digits-said (r .cat) (omega arith);
+        x1 = digits-said (r .x1) (omega arith);
+        x2 = digits-said (r .x2) (omega arith);
+        x3 = digits-said (r .x3) (omega arith);
+        x4 = digits-said (r .x4) (omega arith);
+        x5 = digits-said (r .x5) (omega arith);
+        x6 = digits-said (r .x6) (omega arith);
+      })
+
 -- ---- the header
 pub record SameHeader (s t : List ℕ) : Type 0 where
+  pub two : isForm2 s ≡ isForm2 t
   pub fault : headerFault s ≡ headerFault t
   pub hours : hoursOf s ≡ hoursOf t
   pub marks : marksUnder (headerFault s) s ≡ marksUnder (headerFault t) t
 
 pub same-turned : {s t : List ℕ} → SameHeader s t → SameHeader t s
-same-turned o = record { fault = sym (o .fault); hours = sym (o .hours); marks = sym (o .marks) }
+same-turned o = record { two = sym (o .two); fault = sym (o .fault); hours = sym (o .hours); marks = sym (o .marks) }
 
 pub same-then : {s t u : List ℕ} → SameHeader s t → SameHeader t u → SameHeader s u
-same-then o r = record { fault = o .fault ∙ r .fault; hours = o .hours ∙ r .hours; marks = o .marks ∙ r .marks }
+same-then o r = record { two = o .two ∙ r .two; fault = o .fault ∙ r .fault; hours = o .hours ∙ r .hours; marks = o .marks ∙ r .marks }
 
 pub same-text : {s t : List ℕ} → s ≡ t → SameHeader s t
-same-text e = record { fault = ap headerFault e; hours = ap hoursOf e; marks = ap (λ (x : List ℕ). marksUnder (headerFault x) x) e }
+same-text e = record { two = ap isForm2 e; fault = ap headerFault e; hours = ap hoursOf e; marks = ap (λ (x : List ℕ). marksUnder (headerFault x) x) e }
 
 module _ {s t : List ℕ} (two : isForm2 s ≡ isForm2 t) (count : countOf s ≡ countOf t) (o : Alike (layoutOf s) (hoursOf s) s t) where
   fault-same : headerFault s ≡ headerFault t
@@ -141,7 +180,7 @@ module _ {s t : List ℕ} (two : isForm2 s ≡ isForm2 t) (count : countOf s ≡
 
   marks-judged : (judged : Bool) → judged ≡ true → {hours : ℕ} → Alike (layoutBy (isForm2 s) judged) hours s t
       → layoutForm (layoutBy (isForm2 s) judged) hours s ≡ clear → marksBy (layoutBy (isForm2 s) judged) hours s ≡ marksBy (layoutBy (isForm2 s) judged) hours t
-  marks-judged true j alike form = marks-said (isForm2 s) alike form
+  marks-judged true j alike form = alike-marks (isForm2 s) alike form
   marks-judged false j alike form = absurd (false≢true j)
 
   marks-same : (v : Verdict) → headerFault s ≡ v → marksUnder v s ≡ marksUnder v t
@@ -154,6 +193,7 @@ module _ {s t : List ℕ} (two : isForm2 s ≡ isForm2 t) (count : countOf s ≡
   pub alike-header : SameHeader s t
   alike-header =
       record {
+        two = two;
         fault = fault-same;
         hours = ap hoursBy count;
         marks = marks-same (headerFault s) refl ∙ ap (λ (v : Verdict). marksUnder v t) fault-same;

@@ -1,11 +1,11 @@
--- A header without fault is decided by its own bytes: whatever follows it, it is the same.
+-- A header is decided by its own bytes: whatever follows the empty line that closes it, it is the same.
 use mathlib.Core.Path.{_≡_, sym, _∙_, ap}
 use mathlib.Core.Bool.{Bool, true, false}
 use mathlib.Core.List.{List, [], _∷_, _++_}
 use Prim.Native.Nat.{ℕ, _+_}
 use lib.Dec.{eqb}
 use lib.ListN.{length}
-use lib.Seq.{take-append-seam}
+use lib.Seq.{take-append-le}
 use Rattle.exact.specs.Choice.{if_then_else_}
 use Rattle.tariff.specs.Reply.{clear}
 use Rattle.text.specs.declared.Next.the-variants.{At}
@@ -13,9 +13,10 @@ use Rattle.lines.specs.Line.{placeIn}
 use Rattle.lines.specs.Cut.{emptyIn}
 use Rattle.lines.specs.Pieces.{firstPiece}
 use Rattle.lines.proofs.Along.{never-at}
+use Rattle.lines.proofs.Cut.{behind-range}
 use Rattle.header.specs.Header.{hoursOf, headerFault, marksOf, nextUnder}
 use Rattle.header.proofs.HeaderBehind.{clear-empty}
-use Rattle.header.proofs.HeaderFirst.{SameHeader, first-header}
+use Rattle.header.proofs.HeaderFirst.{SameHeader, same-first}
 
 -- an empty line that is found is found whatever follows
 empty-append : (start : Bool) (x body : List ℕ) (i k : ℕ) → emptyIn start x i ≡ At k → emptyIn start (x ++ body) i ≡ At k
@@ -31,13 +32,19 @@ empty-append start (b ∷ x) body i k = go (eqb b 10) start (λ s. empty-append 
     go false begins more e = more false e
 
 -- ---- a header and what follows it
+pub closed-append : (s body : List ℕ) (k : ℕ) → emptyIn true s 0 ≡ At k → SameHeader (s ++ body) s
+unfolding firstPiece
+closed-append s body k e =
+    let inside = behind-range s 0 k true e .1 in
+    same-first (s ++ body) s (rw (empty-append true s body 0 k e, e) (take-append-le k s body inside))
+
+-- without fault
 module _ (head : List ℕ) (e : headerFault head ≡ clear) (n : nextUnder (headerFault head) head ≡ length head) (body : List ℕ) where
   ends : emptyIn true (head ++ body) 0 ≡ At (length head)
   ends = empty-append true head body 0 (length head) (clear-empty head e ∙ ap At n)
 
   same : SameHeader (head ++ body) head
-  unfolding firstPiece
-  same = rw (ends, take-append-seam head body) at (first-header (head ++ body))
+  same = closed-append head body (length head) (clear-empty head e ∙ ap At n)
 
   pub fault-append : headerFault (head ++ body) ≡ clear
   fault-append = same .fault ∙ e

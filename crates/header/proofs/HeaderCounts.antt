@@ -20,7 +20,7 @@ use Rattle.header.specs.Header.{form1, form2, layoutBy, isForm2, countOf
 use Rattle.header.proofs.HeaderLines.{isInRange, refused-first}
 use Rattle.header.proofs.Forms.{clear-counted}
 
-is-two : (z : ℤ) → eqZ z (pos 2) ≡ true → z ≡ pos 2
+pub is-two : (z : ℤ) → eqZ z (pos 2) ≡ true → z ≡ pos 2
 is-two (pos n) e = ap pos (eqb-true n 2 e)
 is-two (negsuc n) e = absurd (false≢true e)
 

@@ -1,7 +1,7 @@
 -- Two texts whose headers are read side by side, line by line: where both have each line or neither has it, and both say the same, they have the
 -- same header.
 use mathlib.Core.Path.{_≡_, refl, sym, subst}
-use mathlib.Core.Bool.{true, false, false≢true}
+use mathlib.Core.Bool.{true, false}
 use mathlib.Core.List.{List}
 use Prim.Native.Nat.{ℕ, zero, suc, _≤_, _<_}
 use native.Mathlib.Decide.{decLe, decLt}
@@ -13,11 +13,11 @@ use Rattle.text.specs.declared.Next.{Next}
 use Rattle.text.specs.declared.Next.the-variants.{At, Wrong}
 use Rattle.lines.specs.Line.{isAt, andThen, lineFeed}
 use Rattle.header.specs.declared.layout.Line.{Line}
-use Rattle.header.specs.declared.layout.Line.the-variants.{Number, Row, Run, Close}
+use Rattle.header.specs.declared.layout.Line.the-variants.{Close}
 use Rattle.header.specs.Layout.{lineIn, headerLine, linePlace}
 use Rattle.header.specs.Header.{form2, isForm2, countOf, layoutOf, hoursOf}
 use Rattle.header.proofs.HeaderLines.{close-line}
-use Rattle.header.proofs.HeaderAlike.{SaysSame, Alike, SameHeader, alike-header, kind-alike}
+use Rattle.header.proofs.HeaderAlike.{SaysSame, nothing-said, Alike, SameHeader, alike-header, kind-alike}
 use Rattle.header.proofs.HeaderBehind.{Closed, layout-closed}
 
 -- both have a place, and R holds of the two, or neither has one
@@ -63,18 +63,12 @@ module _ (layout : List Line) (o : Closed layout) (hours : ℕ) (s t : List ℕ)
         go (yes v) = both-at (places j v)
         go (no v) = let e : j ≡ suc (o .last) = let l = o .long in omega arith in rw e last-placed
 
-    nothing-said : (line : Line) → SaysSame hours line s t Wrong Wrong
-    nothing-said (Number key least most) = refl
-    nothing-said (Row key admitted) = λ printed. absurd (false≢true printed)
-    nothing-said (Run key) = tt
-    nothing-said Close = tt
-
     said : (j : ℕ) → j < length layout → SaysSame hours (lineIn layout j) s t (linePlace layout hours j s) (linePlace layout hours j t)
     said j u = go (decLt j (o .last))
       where
         from : j < o .last → {x y : Next} → Both (R j) x y → SaysSame hours (lineIn layout j) s t x y
         from v (found p q h) = r .says j p q v h
-        from v missed = nothing-said (lineIn layout j)
+        from v missed = nothing-said hours (lineIn layout j) s t
 
         go : Dec (j < o .last) → SaysSame hours (lineIn layout j) s t (linePlace layout hours j s) (linePlace layout hours j t)
         go (yes v) = from v (places j (omega arith))

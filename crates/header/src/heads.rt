@@ -185,7 +185,7 @@ pub fn count_of(s: &[u8], two: bool) -> i64
 pub fn kind_of(s: &[u8]) -> Kind
     ensures { λ r. ⌜ KindRead (now (s .entry)) r ⌝ }
 {
-    let two = is_number(number_of(s, 0, keys::FORM_LINE), 2);
+    let two = crate::is_form2(s);
     let count = count_of(s, two);
     Kind {
         two,

@@ -1,7 +1,7 @@
 // A day's header: its lines as bytes in, the day's marks and the count of its hours out, or the line that refuses them.
 ghost use mathlib.Core.Path.{_≡_};
 ghost use Rattle.tariff.specs.Reply.{shown};
-ghost use Rattle.header.specs.Header.{headerFault, hoursOf, noMarks, marksUnder, nextUnder};
+ghost use Rattle.header.specs.Header.{headerFault, isForm2, hoursOf, noMarks, marksUnder, nextUnder};
 use tariff::Check;
 use tariff::Found;
 use tariff::Marks;
@@ -45,6 +45,13 @@ pub fn read_header(s: &[u8]) -> Header
         hours,
         next: at[layout::lines_of(two, judged)],
     }
+}
+
+// Whether a sheet's first line says form 2, and so which lines its header has to have.
+pub fn is_form2(s: &[u8]) -> bool
+    ensures { λ r. ⌜ r ≡ isForm2 (now (s .entry)) ⌝ }
+{
+    heads::is_number(heads::number_of(s, 0, keys::FORM_LINE), 2)
 }
 
 // A header that a check refuses.

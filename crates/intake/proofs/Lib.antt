@@ -1,4 +1,4 @@
--- Laws of what is kept of a text, byte by byte and piece by piece.
+-- Laws of what is kept of a text, byte by byte and piece by piece, and of the front of a sheet.
 pub mod Squeezes
 pub mod Step
 pub mod Store
@@ -6,4 +6,5 @@ pub mod Stretches
 pub mod Kept
 pub mod Past
 pub mod Arrived
+pub mod Fronts
 pub mod Unique

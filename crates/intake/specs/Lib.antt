@@ -2,3 +2,4 @@
 pub mod Squeeze
 pub mod Intake
 pub mod Stretch
+pub mod Front

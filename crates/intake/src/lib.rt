@@ -4,7 +4,9 @@ ghost use mathlib.Core.Bool.{true};
 ghost use Prim.Native.Nat.{_+_, _-_, _≤_};
 ghost use lib.ListN.{length};
 ghost use Rattle.lines.specs.Pieces.{PIECE};
+ghost use Rattle.io.specs.Counts.{Counts};
 ghost use Rattle.intake.specs.Intake.{after, kept, placed, afterAll, storeAll, atFirst, begun, TakenMore, goesPast};
+ghost use Rattle.intake.specs.Front.{PartCame, FrontTaken};
 use libc::STDIN_FILENO;
 
 mod squeeze;
@@ -14,6 +16,9 @@ mod stretch;
 pub const PIECES: usize = 26;
 
 pub const DAY: usize = PIECES * (lines::PIECE + 3) + 5;
+
+// Room for the front of a sheet: what decides its header, and behind that a read of 65,536 bytes.
+pub const FRONT: usize = lines::PIECE + 65536;
 
 // How far a text is taken in: `n` bytes are kept, `run` of them of this piece, a line begins here or not, and `left` pieces are
 // still to close. `run` goes no further than lines::PIECE; behind the last piece it is 1 once a byte was kept.
@@ -177,6 +182,36 @@ pub fn begin(pieces: usize, header: bool) -> Taken
     }
 }
 
+// What one read of standard input brought: `n` bytes of it stand squeezed, and whether the input's end was met.
+pub struct Part {
+    pub n: usize,
+    pub squeezed: squeeze::Squeeze,
+    pub ended: bool,
+}
+
+// Reads once, to the front of a row. Which bytes come cannot be said: what stands is some text, squeezed.
+fn read_part(row: &mut [u8], squeezed: squeeze::Squeeze) -> Part
+    ensures within { λ r. ⌜ Counts (r .n) (now (row .exit)) ⌝ }
+    ensures came { λ r. ⌜ PartCame squeezed (now (row .exit)) r ⌝ }
+{
+    let got = libc::read(STDIN_FILENO, row);
+    if got <= 0 {
+        return Part {
+            n: 0,
+            squeezed,
+            ended: true,
+        };
+    }
+    let n = io::count(got, row);
+    let part = squeeze::in_place(row, n, squeezed);
+    let squeezed = part.state;
+    Part {
+        n: part.n,
+        squeezed,
+        ended: false,
+    }
+}
+
 // Takes in what one read of standard input brings. Which bytes that are cannot be said: the store is what some of them leave.
 pub fn take_some(store: &mut [u8], taken: Taken) -> Taken
     ensures { λ r. ⌜ TakenMore (now (store .entry)) taken (now (store .exit)) r ⌝ }
@@ -184,24 +219,48 @@ pub fn take_some(store: &mut [u8], taken: Taken) -> Taken
     let mut chunk = io::large_buffer();
     let kept = taken.kept;
     let squeezed = taken.squeezed;
-    let got = libc::read(STDIN_FILENO, &mut chunk);
-    if got <= 0 {
-        return Taken {
-            kept,
-            squeezed,
-            ended: true,
-        };
-    }
-    let n = io::count(got, &chunk);
-    let part = squeeze::in_place(&mut chunk, n, squeezed);
+    let part = read_part(&mut chunk, squeezed);
     let m = part.n;
-    let squeezed = part.state;
+    let squeezed = part.squeezed;
     let kept = keep(store, kept, &chunk[..m]);
     Taken {
         kept,
         squeezed,
-        ended: false,
+        ended: part.ended,
     }
+}
+
+// The front of a sheet: `n` bytes of it stand in a store, and whether the input's end was met.
+pub struct Front {
+    pub n: usize,
+    pub ended: bool,
+}
+
+// Takes in the front of a sheet, read by read, until its header has closed or lines::PIECE bytes of it stand: no further byte can change how the
+// header is judged. Nothing says that an input ends, so the turns are counted down from a number that no run uses up.
+pub fn take_front(store: &mut [u8]) -> Front
+    ensures within { λ r. ⌜ Counts (r .n) (now (store .exit)) ⌝ }
+    ensures taken { λ r. ⌜ FrontTaken (now (store .exit)) r ⌝ }
+{
+    let mut squeezed = squeeze::at_first(true);
+    let mut n: usize = 0;
+    let mut turns = u64::MAX;
+    while turns > 0 {
+        let part = read_part(&mut store[n..], squeezed);
+        squeezed = part.squeezed;
+        n += part.n;
+        if part.ended {
+            return Front { n, ended: true };
+        }
+        if !squeezed.header {
+            return Front { n, ended: false };
+        }
+        if lines::PIECE <= n {
+            return Front { n, ended: false };
+        }
+        turns -= 1;
+    }
+    Front { n, ended: true }
 }
 
 // Whether a byte stands behind the first `needed` of so many pieces: then no further one can matter.

@@ -8,8 +8,9 @@ use native.Mathlib.Omega.{arith}
 use borrow.Author.Tests.{leb-true, leb-false}
 use lib.Dec.{leb}
 use lib.ListN.{length, getD, set, take, drop, length-append, take-append-drop}
-use lib.Seq.{sets, set-out, length-sets, take-suc, take-all}
+use lib.Seq.{sets, set-out, length-sets, length-take-le, take-suc, take-all}
 use Rattle.exact.proofs.Parts.{by-test}
+use Rattle.io.specs.Counts.{Counts}
 use Rattle.page.specs.Page.{Put}
 
 stored-past : (ys l : List ℕ) (i : ℕ) → length l ≤ i → sets l i ys ≡ l
@@ -60,6 +61,14 @@ module _ {page after : List ℕ} {at next : ℕ} {xs : List ℕ} (p : Put page a
           ∙ stored-past ys after next (let z = p .place in omega arith)
           ∙ p .bytes
           ∙ sym (stored-append xs ys page at ∙ stored-past ys (sets page at xs) (at + length xs) (omega arith))
+
+-- from the page's beginning on: so many of its bytes can be lent on
+pub put-counts : {page after : List ℕ} {next : ℕ} {text : List ℕ} → Put page 0 text after next → Counts next after
+put-counts {page} {after} {next} {text} p =
+    let e = p .place in
+    let n = put-length p in
+    let within : next ≤ length after = omega arith in
+    (within, sym (length-take-le next after within))
 
 pub put-as : {page after : List ℕ} {at next : ℕ} {xs ys : List ℕ} → xs ≡ ys → Put page at xs after next → Put page at ys after next
 put-as {page} {after} {at} {next} e p = subst (λ (t : List ℕ). Put page at t after next) e p

@@ -2,7 +2,7 @@
 use mathlib.Core.Path.{_≡_, refl, sym, _∙_, ap}
 use mathlib.Core.Bool.{false}
 use mathlib.Core.List.{List, _++_}
-use Prim.Native.Nat.{ℕ, min, _≤_}
+use Prim.Native.Nat.{ℕ, min}
 use native.Mathlib.Omega.{arith}
 use lib.IntN.{ℤ}
 use lib.ListN.{length, take, drop}
@@ -10,7 +10,6 @@ use lib.Seq.{take-append-seam, take-at}
 use Rattle.exact.specs.Whole.{upTo}
 use Rattle.exact.proofs.Sums.{up-length}
 use Rattle.io.specs.Counts.{Counts}
-use Rattle.intake.proofs.Store.{counts}
 use Rattle.tariff.specs.declared.Hour.{Hour}
 use Rattle.tariff.specs.declared.Expected.the-variants.{Any}
 use Rattle.tariff.specs.Reply.{Reply, paid, refused, Verdict}
@@ -24,15 +23,12 @@ use Rattle.ledger.specs.Walk.{heldReplies}
 use Rattle.page.specs.Page.{written, Put}
 use Rattle.answers.specs.Answers.{answerText, dayLines}
 use Rattle.printed.specs.Printed.{contributionsOf, hourText, dayPage}
-use Rattle.page.proofs.Pages.{put-length}
+use Rattle.page.proofs.Pages.{put-counts}
 
 pub put-first : {page after : List ℕ} {next : ℕ} {text : List ℕ} → Put page 0 text after next
     → (after ≡ written page 0 text) × ((next ≡ min (length text) (length page)) × Counts next after)
 put-first {page} {after} {next} {text} p =
-    let e = p .place in
-    let n = put-length p in
-    let within : next ≤ length after = omega arith in
-    (p .bytes, (omega arith, counts next after within))
+    let e = p .place in (p .bytes, (omega arith, put-counts p))
 
 -- ---- `hour`
 

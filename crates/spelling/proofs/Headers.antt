@@ -5,8 +5,8 @@ use mathlib.Core.List.{List, [], _∷_, _++_}
 use Prim.Native.Nat.{ℕ, zero, suc, _+_, _<_}
 use native.Mathlib.Nat.{add-zero}
 use native.Mathlib.Omega.{arith}
-use borrow.Author.Tests.{ltb-true, leb-true, eqb-true}
-use lib.Dec.{eqb, leb, ltb, lit<}
+use borrow.Author.Tests.{ltb-true, leb-true}
+use lib.Dec.{eqb, ltb, lit<}
 use lib.IntN.{ℤ, pos, negsuc}
 use lib.ListN.{length}
 use lib.Signed.{leZ}
@@ -38,6 +38,7 @@ use Rattle.header.specs.declared.layout.Line.the-variants.{Number, Row, Run, Cl
 use Rattle.header.specs.Layout.{lineIn, digitsAt, rowAt, saidAt, headerLine, linePlace, numberFrom, digitIn, digitFrom, lineInRange, layoutForm, layoutRange, lineOf, numberOn, digitOn}
 use Rattle.header.specs.Header.{MARKS, unitAndMarks, form1, form2, layoutBy, isForm2, countOf, layoutOf, hoursOf, headerFault, unitOf, rowWord, marksBy, marksOf}
 use Rattle.header.proofs.HeaderCounts.{a-header-that-is-read-has-a-count}
+use Rattle.header.proofs.Forms.{one-number, UnitBehind, unit-behind}
 use Rattle.header.proofs.HeaderLines.{none-refused, isInRange, startOf}
 use Rattle.header.proofs.HeaderEnds.{form-start, line-read, clear-next}
 use Rattle.ledger.specs.Day.{frontOf}
@@ -100,13 +101,6 @@ module _ (hours : ℕ) (s : List ℕ) (at : ℕ) where
   line-spelt line text next t e = fed-spelt (saidAt hours line s at) (said-spelt line text t) e
 
 -- ---- numbers and digits, as their ranges say
-one-number : (k : ℕ) (z : ℤ) → liesIn (pos k) (pos k) z ≡ true → pos k ≡ z
-one-number k (pos n) e =
-    let least = leb-true k n (and-left (leb k n) (leb n k) e) in
-    let most = leb-true n k (and-right (leb k n) (leb n k) e) in
-    let same : k ≡ n = omega arith in ap pos same
-one-number k (negsuc n) e = absurd (false≢true e)
-
 mark-digit : (d : ℕ) → d < 2 → one (eqb d 1) ≡ d
 mark-digit zero u = refl
 mark-digit (suc zero) u = refl
@@ -127,9 +121,7 @@ line-of-text layout hours s form j u line is text t =
 
 -- ---- the lines from `unit` on, which stand behind the d first lines of a layout whose lines are as printed and in range
 module _ (layout : List Line) (d hours : ℕ) (s : List ℕ) (form : layoutForm layout hours s ≡ clear) (range : layoutRange layout hours s ≡ clear)
-    (long : length layout ≡ d + 10)
-    (behind : (j : ℕ) → lineIn layout (d + j) ≡ lineIn (unitAndMarks true) j)
-    (keyed : (j : ℕ) → j < 9 → lineOf (UNIT-LINE + j) layout ≡ d + j) where
+    (o : UnitBehind layout d) where
   abbrev start : ℕ → ℕ
   start = startOf layout hours s
 
@@ -140,15 +132,16 @@ module _ (layout : List Line) (d hours : ℕ) (s : List ℕ) (form : layoutForm 
       → Spelt s (start (d + j)) (saidText (lineIn (unitAndMarks true) j) text ++ (10 ∷ [])) (start (d + suc j))
   line-text j u text t =
       let next : suc (d + j) ≡ d + suc j = omega arith in
-      rw next at (line-of-text layout hours s form (d + j) (omega arith) (lineIn (unitAndMarks true) j) (behind j) text t)
+      let l = o .long in
+      rw next at (line-of-text layout hours s form (d + j) (omega arith) (lineIn (unitAndMarks true) j) (o .line j) text t)
 
   line-range : (j : ℕ) → j < 10 → lineInRange hours (lineIn (unitAndMarks true) j) s (placeOn j) ≡ true
   unfolding layoutRange
-  line-range j u = rw (behind j) at (none-refused (isInRange layout hours s) RANGE (length layout) range (d + j) (omega arith))
+  line-range j u = let l = o .long in rw (o .line j) at (none-refused (isInRange layout hours s) RANGE (length layout) range (d + j) (omega arith))
 
   -- what stands behind a key
   at-key : (j : ℕ) → j < 9 → linePlace layout hours (lineOf (UNIT-LINE + j) layout) s ≡ placeOn j
-  at-key j u = ap (λ (n : ℕ). linePlace layout hours n s) (keyed j u)
+  at-key j u = ap (λ (n : ℕ). linePlace layout hours n s) (o .key j u)
 
   -- a row that is held as a word
   word-text : (j : ℕ) → j < 9 → allTo (λ h. marked MARKS (digitFrom (UNIT-LINE + j) s (placeOn j) h)) hours ≡ true
@@ -191,21 +184,6 @@ module _ (layout : List Line) (d hours : ℕ) (s : List ℕ) (form : layoutForm 
 
 -- ---- a header without fault
 
--- the keys from `unit` on stand behind the d first lines of a layout
-abbrev isBehind : List Line → (d : ℕ) → ℕ → Bool
-isBehind layout d j = eqb (lineOf (UNIT-LINE + j) layout) (d + j)
-
-keyed-in : (layout : List Line) (d : ℕ) → allTo (isBehind layout d) 9 ≡ true → (j : ℕ) → j < 9 → lineOf (UNIT-LINE + j) layout ≡ d + j
-keyed-in layout d e j u = eqb-true _ _ (all-at (isBehind layout d) 9 j e u)
-
-form1-keyed : allTo (isBehind form1 1) 9 ≡ true
-unfolding allTo
-form1-keyed = refl
-
-form2-keyed : allTo (isBehind (form2 true) 2) 9 ≡ true
-unfolding allTo
-form2-keyed = refl
-
 lines-spelt : (two : Bool) (hours : ℕ) (s : List ℕ) → layoutForm (layoutBy two true) hours s ≡ clear → layoutRange (layoutBy two true) hours s ≡ clear
     → (two ≡ true → pos hours ≡ numberOn (layoutBy two true) hours HOURS-LINE s)
     → Spelt s 0 (headerText two hours (numberOn (layoutBy two true) hours UNIT-LINE s) (marksBy (layoutBy two true) hours s))
@@ -216,15 +194,11 @@ lines-spelt true hours s form range says =
     let ranged = none-refused (isInRange layout hours s) RANGE (length layout) range in
     both-spelt (line-of-text layout hours s form 0 (lit< tt) (lineIn layout 0) refl _ (ap number (one-number 2 (numberFrom FORM-LINE s (linePlace layout hours 0 s)) (ranged 0 (lit< tt)))))
     (both-spelt (line-of-text layout hours s form 1 (lit< tt) (lineIn layout 1) refl _ (ap number (says refl)))
-    (marks-spelt layout 2 hours s form range refl
-    (λ j. let e : 2 + j ≡ suc (suc j) = omega arith in rw e)
-    (keyed-in layout 2 form2-keyed)))
+    (marks-spelt layout 2 hours s form range (unit-behind true)))
 lines-spelt false hours s form range says =
     let ranged = none-refused (isInRange form1 hours s) RANGE (length form1) range in
     both-spelt (line-of-text form1 hours s form 0 (lit< tt) (lineIn form1 0) refl _ (ap number (one-number 1 (numberFrom FORM-LINE s (linePlace form1 hours 0 s)) (ranged 0 (lit< tt)))))
-    (marks-spelt form1 1 hours s form range refl
-    (λ j. let e : 1 + j ≡ suc j = omega arith in rw e)
-    (keyed-in form1 1 form1-keyed))
+    (marks-spelt form1 1 hours s form range (unit-behind false))
 
 -- form 2's second line says the count of the day's hours
 hours-said : (s : List ℕ) (hours : ℕ) → isCount (countOf s) ≡ true → isForm2 s ≡ true → pos (hoursOf s) ≡ numberOn (form2 true) hours HOURS-LINE s

@@ -1,4 +1,4 @@
--- The hours of a day by the count that its text says: some, and no more than the longest day has. Each of them may be said there.
+-- The hours of a day by the count that its text says: no fewer than the shortest day has, and no more than the longest. Each of them may be said there.
 use mathlib.Core.Path.{_≡_}
 use mathlib.Core.Bool.{true}
 use Prim.Native.Nat.{ℕ, _<_, _≤_}
@@ -10,7 +10,7 @@ use lib.Signed.{leZ}
 use Rattle.exact.specs.Choice.{if_then_else_}
 use Rattle.exact.specs.Whole.{over}
 use Rattle.exact.proofs.Parts.{arithℤ, by-test, apart}
-use Rattle.tariff.specs.Sheet.{USUAL-DAY, LONGEST-DAY, isCount, hoursBy, isHour, liesIn}
+use Rattle.tariff.specs.Sheet.{SHORTEST-DAY, USUAL-DAY, LONGEST-DAY, isCount, hoursBy, isHour, liesIn}
 use Rattle.tariff.proofs.Tests.{and-left, and-right, and-both}
 
 module _ (count : ℤ) where
@@ -20,11 +20,14 @@ module _ (count : ℤ) where
       (λ e. omega (arithℤ, apart count, and-right (leZ (pos 23) count) (leZ count (pos 25)) e))
       (λ e. omega arith)
 
-  pub hours-some : 0 < hoursBy count
-  hours-some =
-      by-test (isCount count) (λ t. 0 < (if t then over count else USUAL-DAY))
+  pub hours-many : SHORTEST-DAY ≤ hoursBy count
+  hours-many =
+      by-test (isCount count) (λ t. SHORTEST-DAY ≤ (if t then over count else USUAL-DAY))
       (λ e. omega (arithℤ, apart count, and-left (leZ (pos 23) count) (leZ count (pos 25)) e))
       (λ e. omega arith)
+
+  pub hours-some : 0 < hoursBy count
+  hours-some = omega (arith, hours-many)
 
 -- an hour of a day may be said in it
 pub own-hour : (hours k : ℕ) → k < hours → hours ≤ LONGEST-DAY → isHour hours (pos k) ≡ true

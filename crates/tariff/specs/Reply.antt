@@ -5,7 +5,7 @@ use lib.IntN.{ℤ}
 use Rattle.tariff.specs.declared.Answer.{Answer}
 use Rattle.tariff.specs.declared.Answer.the-variants.{Paid, Refused}
 use Rattle.tariff.specs.declared.Check.{Check}
-use Rattle.tariff.specs.declared.Check.the-variants.{Form, Range, Order, Curve, Seconds, Derate, Reach, Room}
+use Rattle.tariff.specs.declared.Check.the-variants.{Form, Range, Order, Curve, Seconds, Derate, Reach, Room, Back}
 use Rattle.tariff.specs.declared.Found.{Found}
 use Rattle.tariff.specs.declared.Found.the-variants.{Nothing, Fault}
 
@@ -13,7 +13,7 @@ pub data Reply : Type 0 where
   paid : (sum cents : ℤ) → Reply
   refused : (number place : ℕ) → Reply
 
--- ---- the table: each check's number, and the number and place for each case of the code's enum
+-- ---- the table, which document 02 continues: each check's number, and the number and place for each case of the code's enum
 
 abbrev pub FORM : ℕ
 FORM = 1
@@ -39,6 +39,9 @@ REACH = 7
 abbrev pub ROOM : ℕ
 ROOM = 8
 
+abbrev pub BACK : ℕ
+BACK = 9
+
 abbrev pub numberOf : Check → ℕ
 numberOf (Form line) = FORM
 numberOf (Range line) = RANGE
@@ -48,6 +51,7 @@ numberOf Seconds = SECONDS
 numberOf (Derate interval) = DERATE
 numberOf (Reach interval) = REACH
 numberOf Room = ROOM
+numberOf Back = BACK
 
 abbrev pub placeOf : Check → ℕ
 placeOf (Form line) = line
@@ -58,6 +62,7 @@ placeOf Seconds = 0
 placeOf (Derate interval) = interval
 placeOf (Reach interval) = interval
 placeOf Room = 0
+placeOf Back = 2
 
 -- an answer in these words
 abbrev pub told : Answer → Reply

@@ -105,7 +105,8 @@ pub enum Expected {
     Says(i64, usize),
 }
 
-// The check that refuses, and its place: a line of the block, or an interval from 1. Three have one place only.
+// The check that refuses, and its place: a line of the block, or an interval from 1. Four have one place only. Back is request 2's: a day of
+// 23 or 25 hours has no form 1.
 pub enum Check {
     Form(usize),
     Range(usize),
@@ -115,9 +116,10 @@ pub enum Check {
     Derate(usize),
     Reach(usize),
     Room,
+    Back,
 }
 
-// The number of a check in document 01's table, and its place.
+// The number of a check in document 01's table, which document 02 continues, and its place.
 pub fn number_of(check: Check) -> u64
     ensures { λ r. ⌜ r ≡ numberOf check ⌝ }
 {
@@ -130,6 +132,7 @@ pub fn number_of(check: Check) -> u64
         Check::Derate(_) => 6,
         Check::Reach(_) => 7,
         Check::Room => 8,
+        Check::Back => 9,
     }
 }
 
@@ -145,6 +148,7 @@ pub fn place_of(check: Check) -> usize
         Check::Derate(interval) => interval,
         Check::Reach(interval) => interval,
         Check::Room => 0,
+        Check::Back => 2,
     }
 }
 

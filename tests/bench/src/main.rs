@@ -1,8 +1,9 @@
-//! Measures the proved library and programs beside the second program and
-//! `wc -l`, on the same sheets in one run. No time is judged.
+//! Measures the proved library and programs beside the second program,
+//! `wc -l` and `cat`, on the same sheets in one run. No time is judged.
 
 mod blocks;
 mod machine;
+mod moves;
 mod programs;
 mod report;
 mod sheets;
@@ -37,6 +38,7 @@ fn measure() -> io::Result<Report> {
         bytes: COUNTS.map(|count| sheets.bytes_of(count)),
         blocks: blocks::measure(&sheets, &folder)?,
         programs: programs::measure(&root, &files)?,
+        moves: moves::measure(&root, &sheets, &folder)?,
     })
 }
 

@@ -130,7 +130,7 @@ fn full_stream() -> io::Result<(UnixStream, UnixStream)> {
 
 /// Waits until the child sleeps: its input is a file, so it can only wait to
 /// print. None if it does not come to that.
-fn wait_asleep(child: &Child) -> io::Result<Option<()>> {
+pub fn wait_asleep(child: &Child) -> io::Result<Option<()>> {
     let until = Instant::now() + Duration::from_secs(5);
     while Instant::now() < until {
         sleep(Duration::from_millis(20));
@@ -149,7 +149,8 @@ fn wait_asleep(child: &Child) -> io::Result<Option<()>> {
     Ok(None)
 }
 
-fn peak(child: &Child) -> Option<u64> {
+/// The most memory that the child had until now, in kB.
+pub fn peak(child: &Child) -> Option<u64> {
     let status = fs::read_to_string(format!("/proc/{}/status", child.id())).ok()?;
     let line = status.lines().find(|line| line.starts_with("VmHWM:"))?;
     line.split_whitespace().nth(1)?.parse().ok()

@@ -4,6 +4,7 @@ use std::fmt;
 
 use second::day::HOURS;
 
+use crate::moves::{self, Moves};
 use crate::programs::Program;
 use crate::timing::{Growth, COUNTS};
 
@@ -19,6 +20,8 @@ pub struct Report {
     pub blocks: Vec<Growth>,
     /// The programs.
     pub programs: Vec<Program>,
+    /// Those that move a sheet to the other form.
+    pub moves: Moves,
 }
 
 const HEAD: &str = "\
@@ -42,6 +45,16 @@ fn table(
     writeln!(out, "\n## {heading}\n\n{sentence}\n")?;
     writeln!(out, "| {} |", columns.join(" | "))?;
     writeln!(out, "|{}", "---|".repeat(columns.len()))
+}
+
+/// The median of the rounds, and in brackets the least and the greatest.
+fn spread([least, median, most]: [f64; 3]) -> String {
+    format!("{median:.2} ({least:.2} to {most:.2})")
+}
+
+/// Memory, if it could be seen.
+fn kb(most: Option<u64>) -> String {
+    most.map_or("-".into(), |most| format!("{most} kB"))
 }
 
 /// A line for each of three that went over the same bytes, `hours` of them in each sheet or run.
@@ -70,7 +83,8 @@ impl fmt::Display for Report {
         self.ratios(out)?;
         self.rates(out)?;
         self.growth(out)?;
-        self.memory(out)
+        self.memory(out)?;
+        self.moves(out)
     }
 }
 
@@ -91,10 +105,7 @@ impl Report {
         table(out, heading, sentence, &columns)?;
         for (name, growth) in self.all() {
             for growth in growth {
-                let shown = |[least, median, most]: [f64; 3]| {
-                    format!("{median:.2} ({least:.2} to {most:.2})")
-                };
-                let [second, wc] = [1, 2].map(|other| shown(growth.ratio(other)));
+                let [second, wc] = [1, 2].map(|other| spread(growth.ratio(0, other)));
                 writeln!(out, "| {name} | {} | {second} | {wc} |", growth.count)?;
             }
         }
@@ -161,12 +172,37 @@ impl Report {
             ..
         } in &self.programs
         {
-            let shown = |most: Option<u64>| most.map_or("-".into(), |most| format!("{most} kB"));
-            writeln!(
-                out,
-                "| {name} | {bytes} | {} |",
-                memory.map(shown).join(" | ")
-            )?;
+            writeln!(out, "| {name} | {bytes} | {} |", memory.map(kb).join(" | "))?;
+        }
+        Ok(())
+    }
+
+    /// A sheet that goes to the other form.
+    fn moves(&self, out: &mut fmt::Formatter<'_>) -> fmt::Result {
+        let Moves {
+            bytes,
+            growth,
+            memory,
+        } = &self.moves;
+        let heading = "A long sheet that moves to the other form";
+        let sentence = format!(
+            "A sheet of {:.0} MB from a file, through a pipe to a reader that throws it away. `cat` looks at nothing, `up` and `down` at the header\n\
+             alone. In brackets the least and the greatest of the rounds. The memory is resident, as the system gives it shortly before the end.",
+            *bytes as f64 / 1e6
+        );
+        let columns = [
+            "Program",
+            "how many times as fast as `cat`",
+            "MB per second",
+            "most memory",
+        ];
+        table(out, heading, &sentence, &columns)?;
+        let seconds = growth.seconds();
+        for (i, name) in moves::NAMES.into_iter().enumerate() {
+            let ratio = spread(growth.ratio(i, moves::CAT));
+            let rate = *bytes as f64 / 1e6 / seconds[i];
+            let memory = kb(memory[i]);
+            writeln!(out, "| `{name}` | {ratio} | {rate:.0} | {memory} |")?;
         }
         Ok(())
     }

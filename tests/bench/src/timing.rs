@@ -9,7 +9,8 @@ pub const COUNTS: [usize; 4] = [1, 10, 100, 1000];
 pub struct Growth {
     /// How many.
     pub count: usize,
-    /// Of each round: the proved one, the second program, and `wc -l`.
+    /// Of each round: the proved one, the second program, and `wc -l`; or
+    /// whatever three were run in turn.
     pub rounds: Vec<[Duration; 3]>,
 }
 
@@ -27,10 +28,10 @@ impl Growth {
         [0, 1, 2].map(|i| spread(of(i).collect())[1])
     }
 
-    /// How many times as fast the proved one is as another, round by round:
-    /// the least, the median and the greatest.
-    pub fn ratio(&self, other: usize) -> [f64; 3] {
-        let ratio = |round: &[Duration; 3]| round[other].as_secs_f64() / round[0].as_secs_f64();
+    /// How many times as fast one is as another, round by round: the least,
+    /// the median and the greatest.
+    pub fn ratio(&self, one: usize, other: usize) -> [f64; 3] {
+        let ratio = |round: &[Duration; 3]| round[other].as_secs_f64() / round[one].as_secs_f64();
         spread(self.rounds.iter().map(ratio).collect())
     }
 }
@@ -45,9 +46,15 @@ fn rounds(count: usize) -> usize {
     }
 }
 
-/// Runs each of these once in every round, so that all of them meet the same
-/// moments of the machine, after one round that is not counted.
-pub fn alternate(count: usize, mut things: [&mut dyn FnMut(); 3]) -> Growth {
+/// Runs each of these over so many sheets or texts once in every round, so that
+/// all of them meet the same moments of the machine.
+pub fn alternate(count: usize, things: [&mut dyn FnMut(); 3]) -> Growth {
+    let rounds = in_turn(rounds(count), things);
+    Growth { count, rounds }
+}
+
+/// So many rounds of these, after one that is not counted.
+pub fn in_turn(rounds: usize, mut things: [&mut dyn FnMut(); 3]) -> Vec<[Duration; 3]> {
     let mut round = || {
         let timed = |thing: &mut &mut dyn FnMut()| {
             let start = Instant::now();
@@ -57,6 +64,5 @@ pub fn alternate(count: usize, mut things: [&mut dyn FnMut(); 3]) -> Growth {
         things.each_mut().map(timed)
     };
     round();
-    let rounds = (0..rounds(count)).map(|_| round()).collect();
-    Growth { count, rounds }
+    (0..rounds).map(|_| round()).collect()
 }

@@ -6,6 +6,8 @@ use std::path::{Path, PathBuf};
 pub struct Arguments {
     /// The program outside.
     pub bin: Option<PathBuf>,
+    /// The one that undoes what it does.
+    pub back: Option<PathBuf>,
     /// The seed of all texts.
     pub seed: u64,
     /// How many texts are made.
@@ -29,6 +31,7 @@ impl Arguments {
     pub fn of(mut given: impl Iterator<Item = String>) -> Option<Self> {
         let mut arguments = Arguments {
             bin: None,
+            back: None,
             seed: 1,
             count: 20_000,
             pairs: None,
@@ -46,6 +49,7 @@ impl Arguments {
             let value = given.next()?;
             match name.as_str() {
                 "--bin" => arguments.bin = Some(value.into()),
+                "--back" => arguments.back = Some(value.into()),
                 "--seed" => arguments.seed = value.parse().ok()?,
                 "--count" => arguments.count = value.parse().ok()?,
                 "--pairs" => arguments.pairs = Some(value.parse().ok()?),

@@ -13,17 +13,19 @@ use crate::pieces::{self, any_said, count, each_hour, said};
 use crate::plan::{recipe, Program, Recipe};
 use crate::random::Rng;
 use crate::same::{self, Bond, Pair};
+use crate::written::Written;
 
 /// The program `day`.
 pub const PROGRAM: Program = Program {
     name: "day",
     recipes: RECIPES,
-    answer: day::program,
+    answer: |text, run| Written::Answer(day::program(text, run)),
     wanted: events::of_day,
     outcome,
     outcomes: || pieces::outcomes(|said| says(plain(said).to_text().as_bytes())),
     ends_at_empty_line: false,
-    pair,
+    pair: Some(pair),
+    back: None,
 };
 
 const RECIPES: &[Recipe] = &[

@@ -50,23 +50,55 @@ pub fn of_block() -> Vec<Event> {
 /// What the program `day` can reach.
 pub fn of_day() -> Vec<Event> {
     let mut events = of_hour();
-    let of_day = |event: &Event| {
-        matches!(
-            event,
-            Event::Refused(Check::Order, Spot::DayAheadLine)
-                | Event::Refused(_, Spot::Header(_) | Spot::CountedHeader(_))
-        )
-    };
-    events.extend(Event::refusals().into_iter().filter(of_day));
+    events.push(Event::Refused(Check::Order, Spot::DayAheadLine));
     events.extend(Event::exclusions());
     events.extend([5, 6].map(Event::MarkWithoutRtc));
     events.push(Event::DaySurplus);
     let of_count = |event: &Event| matches!(event, Event::DayHours(_));
     events.extend(Event::counts().into_iter().filter(of_count));
+    events.extend(forms_of_headers());
+    events.extend(ranges_of_header(1..=10, Spot::Header));
+    events.extend(ranges_of_header(2..=11, Spot::CountedHeader));
+    events
+}
+
+/// What the program `up` can reach: of form 2 it knows FORM, and the wrong way.
+pub fn of_up() -> Vec<Event> {
+    let mut events = forms_of_headers();
+    events.extend(ranges_of_header(1..=10, Spot::Header));
+    events.extend(ranges_of_header(1..=1, Spot::CountedHeader));
+    events
+}
+
+/// What the program `down` can reach: of form 1 it knows FORM, and the wrong
+/// way.
+pub fn of_down() -> Vec<Event> {
+    let mut events = forms_of_headers();
+    events.extend(ranges_of_header(1..=1, Spot::Header));
+    events.extend(ranges_of_header(2..=11, Spot::CountedHeader));
+    events.push(Event::Refused(Check::Back, Spot::CountedHeader(2)));
+    events
+}
+
+/// FORM at every line of a header of either form, and what was wrong with it.
+fn forms_of_headers() -> Vec<Event> {
+    let of_form = |event: &Event| {
+        let Event::Refused(check, spot) = event else {
+            return false;
+        };
+        *check == Check::Form && is_of_header(*spot)
+    };
+    let mut events: Vec<Event> = Event::refusals().into_iter().filter(of_form).collect();
     events.extend(forms_of_header(1..=3, Spot::Header));
     // Its first line is the other layout's, too.
     events.extend(forms_of_header(2..=4, Spot::CountedHeader));
     events
+}
+
+/// RANGE at these lines of a header.
+fn ranges_of_header(lines: RangeInclusive<usize>, spot: fn(usize) -> Spot) -> Vec<Event> {
+    let refused = |line| Event::Refused(Check::Range, spot(line));
+    lines.map(refused).collect()
 }
 
 /// Lines of a header with a number, the seven rows of marks behind them, and
@@ -138,8 +170,12 @@ fn is_of_hour(spot: Spot) -> bool {
     )
 }
 
+fn is_of_header(spot: Spot) -> bool {
+    matches!(spot, Spot::Header(_) | Spot::CountedHeader(_))
+}
+
 fn is_of_import(spot: Spot) -> bool {
-    !is_of_hour(spot) && !matches!(spot, Spot::Header(_) | Spot::CountedHeader(_))
+    !is_of_hour(spot) && !is_of_header(spot)
 }
 
 fn malformed(spot: Spot, faults: &[Fault]) -> Vec<Event> {
@@ -264,7 +300,7 @@ mod tests {
 
     #[test]
     fn every_refusal_and_count_belongs_to_a_program_or_a_call() {
-        let known = [of_block(), of_day(), of_import()].concat();
+        let known = [of_block(), of_day(), of_import(), of_up(), of_down()].concat();
         for event in [Event::refusals(), Event::counts()].concat() {
             assert!(known.contains(&event), "{event:?}");
         }

@@ -10,7 +10,7 @@ use crate::pieces::{self, count, Said, COUNTS_OUT_OF_FORM, NO_COUNTS};
 use crate::random::Rng;
 
 /// The rows of marks, and the number of form 1's lines in front of them.
-const ROWS: usize = 7;
+pub const ROWS: usize = 7;
 const NUMBERS: usize = 3;
 
 /// Lengths of rows: those of all days, those beside, and those around what is
@@ -18,7 +18,7 @@ const NUMBERS: usize = 3;
 const ROW_LENGTHS: &[usize] = &[0, 1, 22, 23, 24, 25, 26, 31, 32, 33, 34, 40, 20_000];
 
 /// Where a read or what is kept of a piece can end.
-const ENDS: &[usize] = &[65_536, 10_640, 131_072, 16_384, 32_768, 196_608];
+pub const ENDS: &[usize] = &[65_536, 10_640, 131_072, 16_384, 32_768, 196_608];
 
 /// A unit in category (i) all day, without exceptions.
 pub fn plain(said: Said) -> Header {
@@ -139,7 +139,7 @@ pub fn out_of_range(rng: &mut Rng, turn: usize) -> Vec<u8> {
             text[at] = rng.pick(digits);
         }
     }
-    if place.round % 3 == 2 {
+    if place.round % 4 == 3 {
         // A fault of form comes first, wherever it stands.
         let other = rng.below(place.first_row + ROWS + 1);
         sheet.lines[other].push(b' ');

@@ -11,12 +11,13 @@ use crate::hours::{self, curve_of, hull, priced, still, sum_and_room, trim};
 use crate::plan::{recipe, Program, Recipe};
 use crate::random::Rng;
 use crate::same;
+use crate::written::Written;
 
 /// The program `hour`.
 pub const PROGRAM: Program = Program {
     name: "hour",
     recipes: RECIPES,
-    answer: hour::program,
+    answer: |text, run| Written::Answer(hour::program(text, run)),
     wanted: events::of_hour,
     outcome,
     outcomes: || {
@@ -25,7 +26,8 @@ pub const PROGRAM: Program = Program {
             .collect()
     },
     ends_at_empty_line: true,
-    pair: same::of_hours,
+    pair: Some(same::of_hours),
+    back: None,
 };
 
 const RECIPES: &[Recipe] = &[

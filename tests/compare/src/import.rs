@@ -13,17 +13,19 @@ use crate::pieces::{self, any_said, count, each_hour, Said, COUNTS_OUT_OF_FORM, 
 use crate::plan::{recipe, Program, Recipe};
 use crate::random::Rng;
 use crate::same::{Bond, Pair};
+use crate::written::Written;
 
 /// The program `import`.
 pub const PROGRAM: Program = Program {
     name: "import",
     recipes: RECIPES,
-    answer: import::program,
+    answer: |text, run| Written::Answer(import::program(text, run)),
     wanted: events::of_import,
     outcome,
     outcomes: || pieces::outcomes(says),
     ends_at_empty_line: false,
-    pair,
+    pair: Some(pair),
+    back: None,
 };
 
 const RECIPES: &[Recipe] = &[

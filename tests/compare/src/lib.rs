@@ -1,15 +1,17 @@
-//! Generated texts of document 01 and the comparison of their answers: those
-//! of a program outside, and those of the second program.
+//! Generated texts of documents 01 and 02 and the comparison of what is written
+//! for them: by a program outside, and by the second program.
 //!
 //! - [`random`]: numbers from a seed;
 //! - [`hours`]: hours as records, and what they need a price for;
 //! - [`damage`]: what can happen to a text;
 //! - [`pieces`]: texts of a head and the blocks of a day;
 //! - [`headers`]: the headers of day sheets;
-//! - [`hour`], [`day`], [`import`]: the texts of each program, recipe by
-//!   recipe;
+//! - [`stored`]: sheets that go up or down;
+//! - [`hour`], [`day`], [`import`], [`archive`]: the texts of each program,
+//!   recipe by recipe;
 //! - [`same`]: pairs of texts whose answers are bound to each other;
 //! - [`events`]: what the texts of each program have to reach;
+//! - [`written`] and [`answers`]: what programs write, and where it differs;
 //! - [`outside`] and [`run`]: the comparison itself;
 //! - [`arguments`] and [`tally`]: what a comparison is told, and what came of
 //!   it.
@@ -17,6 +19,8 @@
 //! A text depends on its seed and index alone, so that each one can be made
 //! again.
 
+pub mod answers;
+pub mod archive;
 pub mod arguments;
 pub mod damage;
 pub mod day;
@@ -31,15 +35,24 @@ pub mod plan;
 pub mod random;
 pub mod run;
 pub mod same;
+pub mod stored;
 pub mod tally;
+pub mod written;
 
 /// Every program that can be compared.
-pub const PROGRAMS: [&plan::Program; 3] = [&hour::PROGRAM, &day::PROGRAM, &import::PROGRAM];
+pub const PROGRAMS: [&plan::Program; 5] = [
+    &hour::PROGRAM,
+    &day::PROGRAM,
+    &import::PROGRAM,
+    &archive::UP,
+    &archive::DOWN,
+];
 
 #[cfg(test)]
 mod tests {
     use super::*;
     use second::{Run, Way};
+    use written::Written;
 
     /// Texts of a program until every wanted event is met, at most so many.
     fn reaches(program: &plan::Program, most: usize) {
@@ -49,7 +62,7 @@ mod tests {
             for index in 0..most {
                 let text = program.case(seed, index).text;
                 let answer = (program.answer)(&text, &mut run);
-                outcomes.extend((program.outcome)(&text, &answer));
+                outcomes.extend((program.outcome)(&text, answer.said()));
             }
             for wanted in (program.outcomes)() {
                 let had = outcomes.contains(&wanted);
@@ -80,13 +93,40 @@ mod tests {
     }
 
     #[test]
+    fn stored_sheets_reach_everything() {
+        reaches(&archive::UP, 1500);
+        reaches(&archive::DOWN, 1500);
+    }
+
+    #[test]
     fn pairs_are_bound_for_the_second_program() {
         for program in PROGRAMS {
             for index in 0..60 {
-                let pair = program.pair(3, index);
+                let Some(pair) = program.pair(3, index) else {
+                    continue;
+                };
                 let answer = |text| (program.answer)(text, &mut Run::quiet(Way::Steps));
                 let (before, after) = (answer(&pair.before), answer(&pair.after));
-                assert!(pair.bond.holds(&before, &after), "{} {index}", program.name);
+                let holds = pair.bond.holds(before.said(), after.said());
+                assert!(holds, "{} {index}", program.name);
+            }
+        }
+    }
+
+    #[test]
+    fn what_a_program_undoes_comes_back() {
+        let named = |name| PROGRAMS.into_iter().find(|program| program.name == name);
+        for (program, name) in PROGRAMS.iter().filter_map(|p| Some((p, p.back?))) {
+            let back = named(name).expect("it is compared, too");
+            assert_eq!(back.back, Some(program.name));
+            let write = |program: &plan::Program, text: &[u8]| {
+                (program.answer)(text, &mut Run::quiet(Way::Steps))
+            };
+            for index in 0..600 {
+                let text = program.case(4, index).text;
+                if let Written::Text(moved) = write(program, &text) {
+                    assert_eq!(write(back, &moved), Written::Text(text), "{name} {index}");
+                }
             }
         }
     }

@@ -1,4 +1,4 @@
-//! A program outside: a text goes to its standard input, and what it prints
+//! A program outside: a text goes to its standard input, and what it writes
 //! and how it ends comes back.
 
 use std::io::{self, Read, Write};
@@ -6,7 +6,7 @@ use std::path::Path;
 use std::process::{Child, Command, ExitStatus, Stdio};
 use std::sync::atomic::{AtomicBool, Ordering};
 use std::sync::{Mutex, MutexGuard, PoisonError};
-use std::thread::sleep;
+use std::thread::{self, sleep};
 use std::time::{Duration, Instant};
 
 /// How long a program may take for one text.
@@ -33,10 +33,10 @@ pub struct Reply {
 }
 
 impl Reply {
-    /// Whether the program ended normally, printed this and nothing else.
-    pub fn is(&self, answer: &str) -> bool {
+    /// Whether the program ended normally and wrote this on its two outputs.
+    pub fn is(&self, stdout: &[u8], stderr: &[u8]) -> bool {
         let normal = self.status.is_some_and(|status| status.success());
-        normal && self.stderr.is_empty() && self.stdout == answer.as_bytes()
+        normal && self.stdout == stdout && self.stderr == stderr
     }
 
     /// How it ended, in words.
@@ -102,7 +102,11 @@ impl Outside {
             .stdin(Stdio::piped())
             .stdout(Stdio::piped())
             .stderr(Stdio::piped())
-            .spawn()?;
+            .spawn()
+            .map_err(|error| {
+                let what = format!("{}: {error}", program.display());
+                io::Error::new(error.kind(), what)
+            })?;
         let pipes = (child.stdin.take(), child.stdout.take(), child.stderr.take());
         *self.slot(slot) = Some(Running {
             child,
@@ -112,14 +116,21 @@ impl Outside {
         let (Some(mut stdin), Some(mut out), Some(mut err)) = pipes else {
             return Err(io::Error::other("a pipe is missing"));
         };
-        // The program may have its answer before it has read everything.
-        let _ = feed(&mut stdin, text, &manner.cuts);
-        let held = Some(stdin).filter(|_| manner.held_open);
         let (mut stdout, mut stderr) = (Vec::new(), Vec::new());
-        out.read_to_end(&mut stdout)?;
-        err.read_to_end(&mut stderr)?;
-        let status = self.end(slot)?;
-        drop(held);
+        // A program that writes as it reads waits until it is read from, so
+        // the text is handed over on the side.
+        let status = thread::scope(|scope| {
+            let held = scope.spawn(move || {
+                // The program may have its answer before it has read everything.
+                let _ = feed(&mut stdin, text, &manner.cuts);
+                Some(stdin).filter(|_| manner.held_open)
+            });
+            out.read_to_end(&mut stdout)?;
+            err.read_to_end(&mut stderr)?;
+            let status = self.end(slot);
+            drop(held.join());
+            status
+        })?;
         Ok(Reply {
             stdout,
             stderr,
@@ -178,9 +189,28 @@ mod tests {
             held_open: false,
             cuts: vec![1, 1, 2, 9],
         };
-        assert!(ask("cat", b"abc\n", &manner).is("abc\n"));
-        assert!(!ask("cat", b"abc\n", &manner).is("abd\n"));
-        assert!(!ask("false", b"", &manner).is(""));
+        assert!(ask("cat", b"abc\n", &manner).is(b"abc\n", b""));
+        assert!(!ask("cat", b"abc\n", &manner).is(b"abd\n", b""));
+        assert!(!ask("cat", b"abc\n", &manner).is(b"abc\n", b"x"));
+        assert!(!ask("false", b"", &manner).is(b"", b""));
+    }
+
+    #[test]
+    fn a_program_may_write_while_it_reads() {
+        let text = vec![b'x'; 1_000_000];
+        let manner = Manner {
+            held_open: false,
+            cuts: vec![70_000, 500_000],
+        };
+        assert!(ask("cat", &text, &manner).is(&text, b""));
+    }
+
+    #[test]
+    fn a_program_that_is_not_there_is_named() {
+        let outside = Outside::new(1);
+        let reply = outside.ask(0, Path::new("no/such"), b"", &Manner::default());
+        let error = reply.expect_err("no program").to_string();
+        assert!(error.starts_with("no/such: "), "{error}");
     }
 
     #[test]
@@ -189,6 +219,6 @@ mod tests {
             held_open: true,
             cuts: vec![],
         };
-        assert!(ask("true", &[b'x'; 200_000], &manner).is(""));
+        assert!(ask("true", &[b'x'; 200_000], &manner).is(b"", b""));
     }
 }

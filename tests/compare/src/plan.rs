@@ -4,6 +4,7 @@ use second::{Event, Run};
 
 use crate::random::Rng;
 use crate::same::Pair;
+use crate::written::Written;
 
 /// One way to make texts.
 pub struct Recipe {
@@ -25,25 +26,29 @@ pub const fn recipe(
     Recipe { name, share, make }
 }
 
-/// A program of document 01: its texts and its answers.
+/// A program of documents 01 and 02: its texts and its answers.
 pub struct Program {
     /// Its name on the command line.
     pub name: &'static str,
     /// The ways its texts are made.
     pub recipes: &'static [Recipe],
-    /// What the second program prints for a text.
-    pub answer: fn(&[u8], &mut Run) -> String,
+    /// What the second program writes for a text.
+    pub answer: fn(&[u8], &mut Run) -> Written,
     /// Everything that its texts can reach.
     pub wanted: fn() -> Vec<Event>,
-    /// What a text says of its hours and what came of them, if its answer is
-    /// one of those that go by them.
+    /// What a text says of its hours and what came of them, if its answer or
+    /// refusal is one of those that go by them. That is empty where a text is
+    /// written instead.
     pub outcome: fn(&[u8], &str) -> Option<String>,
     /// All of these that its texts have to have.
     pub outcomes: fn() -> Vec<String>,
     /// Whether it has its answer at the first empty line, whatever follows.
     pub ends_at_empty_line: bool,
-    /// Two texts whose answers are bound to each other, for each turn.
-    pub pair: fn(&mut Rng, usize) -> Pair,
+    /// Two texts whose answers are bound to each other, for each turn, where
+    /// there are such.
+    pub pair: Option<fn(&mut Rng, usize) -> Pair>,
+    /// The program that undoes what this one does to a text, if there is one.
+    pub back: Option<&'static str>,
 }
 
 /// A generated text.
@@ -72,10 +77,10 @@ impl Program {
         unreachable!("a slot of the round belongs to a recipe")
     }
 
-    /// The pair of this index under this seed.
-    pub fn pair(&self, seed: u64, index: usize) -> Pair {
+    /// The pair of this index under this seed, where there are pairs.
+    pub fn pair(&self, seed: u64, index: usize) -> Option<Pair> {
         // Another seed, so that pairs are not made of the cases' hours.
         let mut rng = Rng::new(!seed, index as u64);
-        (self.pair)(&mut rng, index)
+        self.pair.map(|pair| pair(&mut rng, index))
     }
 }

@@ -1,7 +1,6 @@
 //! The comparison: every text goes to the program outside and to the second
-//! program, and their answers have to be the same bytes.
+//! program, and what they write has to be the same bytes.
 
-use std::fmt::Write as _;
 use std::path::{Path, PathBuf};
 use std::sync::atomic::{AtomicUsize, Ordering};
 use std::time::Instant;
@@ -9,10 +8,12 @@ use std::{io, thread};
 
 use second::{Run, Way};
 
-use crate::outside::{Manner, Outside, Reply};
+use crate::answers::Answers;
+use crate::outside::{Manner, Outside};
 use crate::plan::Program;
 use crate::random::Rng;
-use crate::tally::{shown, write_failure, Tally, ENOUGH};
+use crate::tally::{write_failure, Tally, ENOUGH};
+use crate::written::Written;
 
 /// A program that does not end in time counts for so many failures.
 const SLOW_WEIGHT: usize = 10;
@@ -31,6 +32,8 @@ pub struct Job<'a> {
     pub program: &'a Program,
     /// The program outside.
     pub bin: &'a Path,
+    /// The one that has to undo what it does to a text, if that is asked.
+    pub back: Option<&'a Path>,
     /// The seed of all texts.
     pub seed: u64,
     /// The indexes of the texts.
@@ -150,36 +153,6 @@ struct Asker<'a> {
     run: Run,
 }
 
-/// A text with the answers of both programs.
-struct Answers {
-    text: Vec<u8>,
-    manner: Manner,
-    second: String,
-    reply: Reply,
-}
-
-impl Answers {
-    fn agree(&self) -> bool {
-        self.reply.is(&self.second)
-    }
-
-    /// The first line that differs, and how the program ended.
-    fn difference(&self) -> String {
-        let printed = String::from_utf8_lossy(&self.reply.stdout);
-        let mut wanted = self.second.split_inclusive('\n');
-        let mut got = printed.split_inclusive('\n');
-        let end = self.reply.end();
-        loop {
-            let (wanted, got) = (wanted.next(), got.next());
-            if wanted != got || wanted.is_none() {
-                let shown = |line: Option<&str>| format!("{:?}", line.unwrap_or_default());
-                let (wanted, got) = (shown(wanted), shown(got));
-                return format!("second says {wanted}, program says {got} ({end})");
-            }
-        }
-    }
-}
-
 impl Asker<'_> {
     fn answers(&mut self, text: Vec<u8>, index: usize) -> io::Result<Answers> {
         let manner = self.job.manner(&text, index);
@@ -197,27 +170,55 @@ impl Asker<'_> {
     fn case(&mut self, index: usize, tally: &mut Tally) -> io::Result<Option<Failure>> {
         let case = self.job.program.case(self.job.seed, index);
         let answers = self.answers(case.text, index)?;
-        tally.count(case.recipe, answers.second.contains("refused="));
-        if let Some(outcome) = (self.job.program.outcome)(&answers.text, &answers.second) {
+        let said = answers.second.said();
+        tally.count(case.recipe, said.contains("refused="));
+        if let Some(outcome) = (self.job.program.outcome)(&answers.text, said) {
             tally.count_outcome(outcome);
         }
-        if answers.agree() {
+        let mut all = vec![answers];
+        if all[0].agree() {
+            all.extend(self.back(&all[0], index, tally)?);
+        }
+        if all.iter().all(Answers::agree) {
             return Ok(None);
         }
         let name = format!("failing-{}{}-{index}.txt", self.prefix(), self.job.seed);
-        self.write(
-            &name,
-            case.recipe,
-            &format!("index: {index}\n"),
-            &[&answers],
-        )
-        .map(Some)
+        let made = match self.job.program.back.filter(|_| all.len() > 1) {
+            Some(back) => format!("{}, and back by {back}", case.recipe),
+            None => case.recipe.to_string(),
+        };
+        let about = format!("index: {index}\n");
+        self.write(&name, &made, &about, &all).map(Some)
+    }
+
+    /// What the program moved, handed to the one that undoes it: the text from
+    /// before has to come back.
+    fn back(
+        &self,
+        moved: &Answers,
+        index: usize,
+        tally: &mut Tally,
+    ) -> io::Result<Option<Answers>> {
+        let (Some(bin), Written::Text(text)) = (self.job.back, &moved.second) else {
+            return Ok(None);
+        };
+        tally.backs += 1;
+        let manner = self.job.manner(text, index);
+        let reply = self.outside.ask(self.slot, bin, text, &manner)?;
+        Ok(Some(Answers {
+            text: text.clone(),
+            manner,
+            second: Written::Text(moved.text.clone()),
+            reply,
+        }))
     }
 
     /// Compares a pair: both texts, and the bond between the answers of each
     /// program.
     fn pair(&mut self, index: usize) -> io::Result<Option<Failure>> {
-        let pair = self.job.program.pair(self.job.seed, index);
+        let Some(pair) = self.job.program.pair(self.job.seed, index) else {
+            return Ok(None);
+        };
         // What pairs reach is not counted: the texts have to do it alone.
         let trace = std::mem::replace(&mut self.run.trace, second::Trace::off());
         let answers = self.answers(pair.before, index);
@@ -229,7 +230,7 @@ impl Asker<'_> {
             (Ok(printed), Ok(then)) => pair.bond.holds(printed, then),
             _ => false,
         };
-        let second = pair.bond.holds(&before.second, &after.second);
+        let second = pair.bond.holds(before.second.said(), after.second.said());
         if before.agree() && after.agree() && outside && second {
             return Ok(None);
         }
@@ -242,7 +243,7 @@ impl Asker<'_> {
             "index of the pair: {index}\nthe answers should be bound so: {:?}\nof the second program they are: {second}\nof the program outside they are: {outside}\n",
             pair.bond
         );
-        self.write(&name, pair.name, &about, &[&before, &after])
+        self.write(&name, pair.name, &about, &[before, after])
             .map(Some)
     }
 
@@ -254,48 +255,21 @@ impl Asker<'_> {
     }
 
     /// Writes a failure to its file and gives a line about it.
-    fn write(
-        &self,
-        name: &str,
-        recipe: &str,
-        about: &str,
-        all: &[&Answers],
-    ) -> io::Result<Failure> {
+    fn write(&self, name: &str, recipe: &str, about: &str, all: &[Answers]) -> io::Result<Failure> {
         let mut file = format!(
             "{} of seed {}\nmade as: {recipe}\n{about}",
             self.job.program.name, self.job.seed
         )
         .into_bytes();
         for answers in all {
-            file.extend(self.describe(answers));
+            file.extend(answers.describe());
         }
         let path = write_failure(&self.job.out, name, &file)?;
         let differs = all.iter().find(|answers| !answers.agree());
-        let line = differs.map_or("bond broken".to_string(), |answers| answers.difference());
+        let line = differs.map_or("bond broken".to_string(), Answers::difference);
         Ok(Failure {
             line: format!("{} ({recipe}): {line}", path.display()),
             in_time: all.iter().all(|answers| answers.reply.status.is_some()),
         })
-    }
-
-    fn describe(&self, answers: &Answers) -> Vec<u8> {
-        let Reply { stdout, stderr, .. } = &answers.reply;
-        let mut text = String::new();
-        // Appending to a string cannot fail.
-        let _ = writeln!(
-            text,
-            "\n--- the second program's answer\n{}",
-            answers.second
-        );
-        let _ = writeln!(text, "--- the program's answer ({})", answers.reply.end());
-        let _ = writeln!(text, "{}", String::from_utf8_lossy(stdout));
-        if !stderr.is_empty() {
-            let _ = writeln!(text, "--- its standard error");
-            let _ = writeln!(text, "{}", String::from_utf8_lossy(stderr));
-        }
-        let _ = writeln!(text, "--- handed over as {:?}", answers.manner);
-        let mut bytes = text.into_bytes();
-        bytes.extend(shown(&answers.text));
-        bytes
     }
 }

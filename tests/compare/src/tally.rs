@@ -22,6 +22,8 @@ pub struct Tally {
     pub failed: usize,
     /// What the second program noted on the way.
     pub trace: Trace,
+    /// Texts that were moved and handed to the program that undoes it.
+    pub backs: usize,
     /// Of each recipe: texts without a refusal, and with one.
     recipes: BTreeMap<&'static str, [usize; 2]>,
     /// What texts said of their hours, and what came of them.
@@ -34,6 +36,7 @@ impl Tally {
     pub fn add(&mut self, other: Tally) {
         self.passed += other.passed;
         self.failed += other.failed;
+        self.backs += other.backs;
         for (recipe, counts) in other.recipes {
             let sum = self.recipes.entry(recipe).or_default();
             sum[0] += counts[0];
@@ -71,6 +74,9 @@ impl Tally {
     pub fn report(&self, all_events: bool) {
         for (recipe, [paid, refused]) in &self.recipes {
             println!("{recipe}: {paid} without a refusal, {refused} with one");
+        }
+        if self.backs > 0 {
+            println!("handed on to come back: {} texts", self.backs);
         }
         for (outcome, count) in &self.outcomes {
             println!("came out {count} times: {outcome}");

@@ -25,7 +25,9 @@ exit status is 1 if anything failed or if a wanted event was never reached.
 
 fn main() -> ExitCode {
     let arguments = Arguments::of(std::env::args().skip(1));
-    let Some(arguments) = arguments.filter(|a| a.bin.is_none() && a.pairs.is_none()) else {
+    let Some(arguments) =
+        arguments.filter(|a| a.bin.is_none() && a.back.is_none() && a.pairs.is_none())
+    else {
         eprint!("{USAGE}");
         return ExitCode::from(2);
     };

@@ -1,9 +1,10 @@
-//! Standard input and output of the three programs.
+//! Standard input, output and error of the programs.
 
 use std::fs::File;
 use std::io::{self, ErrorKind, Read, Write};
 use std::os::fd::AsFd;
 
+use crate::archive::Moved;
 use crate::curve::Way;
 use crate::Run;
 
@@ -47,8 +48,23 @@ fn read_block_from(source: &mut impl Read, input: &mut Vec<u8>) {
 
 /// Prints the answer. A closed standard output takes nothing, and no harm.
 pub fn print(answer: &str) {
-    let mut out = io::stdout().lock();
-    let _ = out.write_all(answer.as_bytes());
+    write(&mut io::stdout().lock(), answer.as_bytes());
+}
+
+/// Writes a moved sheet on standard output, or its refusal on standard error:
+/// one of the two stays empty.
+pub fn hand_on(moved: &Moved) {
+    match moved {
+        Moved::Sheet(text) => write(&mut io::stdout().lock(), text),
+        Moved::Refused(refusal) => {
+            let line = format!("{refusal}\n");
+            write(&mut io::stderr().lock(), line.as_bytes());
+        }
+    }
+}
+
+fn write(out: &mut impl Write, bytes: &[u8]) {
+    let _ = out.write_all(bytes);
     let _ = out.flush();
 }
 

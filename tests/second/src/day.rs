@@ -2,7 +2,7 @@
 
 use std::fmt;
 
-use crate::header::read_header;
+use crate::header::{read_header, FORMS};
 use crate::hour::{judge_lines, Answer, Ask};
 use crate::record::MOST_INTERVALS;
 use crate::refusal::Refusal;
@@ -66,7 +66,7 @@ fn print_day(day: &Day, out: &mut fmt::Formatter<'_>) -> fmt::Result {
 /// Judges a day sheet.
 pub fn judge(text: &[u8], run: &mut Run) -> DayAnswer {
     let head = cut_block(text);
-    match read_header(&head, &mut run.trace) {
+    match read_header(&head, &FORMS, &mut run.trace) {
         Ok(header) => DayAnswer::Judged(Box::new(judge_hours(header, head.rest, run))),
         Err(refusal) => DayAnswer::Refused(refusal),
     }

@@ -14,11 +14,14 @@ pub const HOURS: usize = 24;
 pub type Marks = Vec<u8>;
 
 /// The forms of a sheet.
-const FORMS: [i64; 2] = [1, COUNTED_FORM];
+pub(crate) const FORMS: [i64; 2] = [PLAIN_FORM, COUNTED_FORM];
+
+/// The form of a day of 24 hours, whose header does not say them.
+pub(crate) const PLAIN_FORM: i64 = 1;
 
 /// The form whose header says the hours of its day, on line 2. Every other
 /// number on line 1 has the layout without them.
-const COUNTED_FORM: i64 = 2;
+pub(crate) const COUNTED_FORM: i64 = 2;
 
 /// No category, and categories (i), (iii), (iv) and (v) of 25.2.1. Category
 /// (ii), demand side resources, is not among what is paid yet.
@@ -52,7 +55,7 @@ pub struct Header {
 impl Default for Header {
     fn default() -> Self {
         Header {
-            form: 1,
+            form: PLAIN_FORM,
             ..Header::counted(HOURS)
         }
     }
@@ -102,9 +105,10 @@ impl Header {
         Ok(header)
     }
 
-    /// RANGE at the first line with a number or digit that it does not allow.
-    fn check_ranges(&self) -> Result<(), Refusal> {
-        let mut good = vec![FORMS.contains(&self.form)];
+    /// RANGE at the first line with a number or digit that it does not allow;
+    /// line 1 allows the given forms.
+    fn check_ranges(&self, forms: &[i64]) -> Result<(), Refusal> {
+        let mut good = vec![forms.contains(&self.form)];
         if self.form == COUNTED_FORM {
             good.push(DAY_HOURS.missed(self.hours).is_none());
         }
@@ -185,13 +189,18 @@ impl Header {
     }
 }
 
-/// Reads a header and refuses one that no day can have.
-pub(crate) fn read_header(head: &Cut<'_>, trace: &mut Trace) -> Result<Header, Refusal> {
+/// Reads a header and refuses one that no day can have, or that is of none of
+/// the given forms.
+pub(crate) fn read_header(
+    head: &Cut<'_>,
+    forms: &[i64],
+    trace: &mut Trace,
+) -> Result<Header, Refusal> {
     let read = Header::read(head).map_err(|(line, fault)| {
         trace.note(Event::Malformed(spot_of(head, line), fault));
         Refusal::new(Check::Form, line)
     });
-    let judged = read.and_then(|header| header.check_ranges().map(|()| header));
+    let judged = read.and_then(|header| header.check_ranges(forms).map(|()| header));
     if let Err(refusal) = judged {
         let spot = spot_of(head, refusal.place);
         trace.note(Event::Refused(refusal.check, spot));

@@ -1,15 +1,18 @@
 //! The second program: it answers every text of document 01 (an hour block,
 //! a day sheet, a curtailed import), for days of 23, 24 and 25 hours, with
-//! every check, so that its answers can be laid beside those of the engine.
+//! every check, and moves stored sheets from one form to the other, so that its
+//! answers can be laid beside those of the engine.
 //!
 //! The short way in is [`hour_text`], [`day_text`] and [`import_text`]: bytes
-//! in, the printed answer out. Behind them stand
+//! in, the printed answer out; and [`up_text`] and [`down_text`]: bytes in, the
+//! moved sheet or the refusal out. Behind them stand
 //!
 //! - [`hour`]: one hour, from a lent block or from an [`HourRecord`], with the
 //!   lent row of contributions;
 //! - [`header`]: the header of a day and who is excluded by its marks;
 //! - [`day`]: the header, the day's hours and their total;
 //! - [`import`]: the curtailed import of one day;
+//! - [`archive`]: a stored sheet in the other form;
 //! - [`trace`]: what an input reached, collected on the side.
 //!
 //! ```
@@ -33,6 +36,7 @@
 //! whole cents per MWh, time whole seconds, and amounts are in grains
 //! (1/3,600,000 cent), held in 128 bits so that no sum can overflow.
 
+pub mod archive;
 pub mod console;
 pub mod curve;
 pub mod day;
@@ -47,6 +51,7 @@ pub mod refusal;
 pub mod text;
 pub mod trace;
 
+pub use archive::Moved;
 pub use curve::{Curve, Step, Way};
 pub use day::{Day, DayAnswer, Header};
 pub use hour::{Answer, Ask, Paid};
@@ -95,6 +100,16 @@ pub fn day_text(input: &[u8]) -> String {
 /// What the program `import` prints for this input.
 pub fn import_text(input: &[u8]) -> String {
     import::program(input, &mut Run::quiet(Way::Steps))
+}
+
+/// What the program `up` makes of this input.
+pub fn up_text(input: &[u8]) -> Moved {
+    archive::up(input, &mut Run::quiet(Way::Steps))
+}
+
+/// What the program `down` makes of this input.
+pub fn down_text(input: &[u8]) -> Moved {
+    archive::down(input, &mut Run::quiet(Way::Steps))
 }
 
 /// Grains in a cent: 1000 kW in a MW times 3600 seconds in an hour.

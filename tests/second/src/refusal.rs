@@ -1,4 +1,4 @@
-//! Why a text is not paid: the number of the check and the place.
+//! Why a text is not paid, or not moved: the number of the check and the place.
 
 use std::fmt;
 
@@ -21,6 +21,8 @@ pub enum Check {
     Reach = 7,
     /// The lent row is too short for the contributions.
     Room = 8,
+    /// A day of another count than 24 cannot be stored in form 1.
+    Back = 9,
 }
 
 impl Check {

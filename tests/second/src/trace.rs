@@ -43,7 +43,7 @@ pub enum Spot {
     /// it counts here.
     Header(usize),
     /// A line of a header that says its hours, which is line 2; 12 is the
-    /// empty one.
+    /// empty one. Line 1 counts here where the form is known and not allowed.
     CountedHeader(usize),
     /// Line 1 of an hour block: the day-ahead schedules and bids.
     DayAheadLine,
@@ -286,6 +286,8 @@ impl Event {
             (Check::Room, Spot::WholeHour),
             (Check::Form, Spot::Header(11)),
             (Check::Form, Spot::CountedHeader(12)),
+            (Check::Range, Spot::CountedHeader(1)),
+            (Check::Back, Spot::CountedHeader(2)),
             (Check::Form, Spot::ImportGap),
             (Check::Form, Spot::ImportExtraLine),
             (Check::Order, Spot::ImportHourLine),

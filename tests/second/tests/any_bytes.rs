@@ -1,9 +1,11 @@
-//! Every byte string has an answer, in the printed form of document 01.
+//! Every byte string has an answer, in the printed form of document 01, or is
+//! moved and comes back.
 
 mod common;
 
 use common::*;
-use second::{day, hour, import, Header, Run, Way};
+use second::{archive, day, hour, import, Check, Header, Moved, Run, Way};
+use second::{day_text, down_text, up_text};
 
 /// Whether a printed line is `key=number` pairs with these keys; `-` may stand
 /// for a number.
@@ -45,7 +47,22 @@ fn is_import_answer(text: &str) -> bool {
     is_line(line, &["import", "pay"]) || is_line(line, &["refused", "hour", "at"])
 }
 
-/// Asks all three programs for one text.
+/// A moved sheet has the same answers and goes back to the same bytes; a
+/// refusal names a line of the header.
+fn is_moved_or_refused(text: &[u8], moved: Moved, back: fn(&[u8]) -> Moved, last: Check) -> bool {
+    match moved {
+        Moved::Sheet(other) => {
+            let same = day_text(&other) == day_text(text);
+            same && back(&other) == Moved::Sheet(text.to_vec())
+        }
+        Moved::Refused(refusal) => {
+            let known = [Check::Form, Check::Range, last].contains(&refusal.check);
+            known && (1..=12).contains(&refusal.place)
+        }
+    }
+}
+
+/// Asks all programs for one text.
 fn ask_all(text: &[u8]) {
     let run = &mut Run::new(Way::Steps);
     let shown = || String::from_utf8_lossy(text).into_owned();
@@ -60,6 +77,11 @@ fn ask_all(text: &[u8]) {
             shown()
         );
     }
+    let up = archive::up(text, run);
+    let is_up = is_moved_or_refused(text, up, down_text, Check::Range);
+    let down = archive::down(text, run);
+    let is_down = is_moved_or_refused(text, down, up_text, Check::Back);
+    assert!(is_up && is_down, "{}", shown());
 }
 
 /// Bytes that a change puts in: digits, signs, and such as stand in no sheet.

@@ -6,7 +6,8 @@ mod common;
 use common::*;
 use second::day::HOURS;
 use second::trace::{Branch, DerateKind, ImportTest, Nth, Reason, Spot, Term};
-use second::{day, hour, import, Ask, Check, Curve, Event, Header, HourRecord, Interval, Run};
+use second::{archive, day, hour, import, Ask, Check, Curve, Event, Header, HourRecord, Interval};
+use second::{Moved, Run};
 
 /// An hour of thirty intervals in each of which a unit runs below its
 /// day-ahead schedule.
@@ -112,6 +113,18 @@ fn refused_counted_headers(run: &mut Run) {
     }
 }
 
+/// What only stored sheets are refused for: their way.
+fn refused_archives(run: &mut Run) {
+    let text = counted_day(25);
+    let refused = [
+        (archive::up(text.as_bytes(), run), Check::Range, 1),
+        (archive::down(text.as_bytes(), run), Check::Back, 2),
+    ];
+    for (moved, check, line) in refused {
+        assert_eq!(moved, Moved::Refused(second::Refusal::new(check, line)));
+    }
+}
+
 fn refused_imports(run: &mut Run) {
     let mut hours = one_cent_imports();
     for hour in hours.iter_mut() {
@@ -145,6 +158,7 @@ fn every_refusal_at_every_kind_of_place() {
     refused_hours(&mut run);
     refused_headers(&mut run);
     refused_counted_headers(&mut run);
+    refused_archives(&mut run);
     refused_imports(&mut run);
     assert_eq!(run.trace.missing(Event::refusals()), []);
     // And no refusal at a place where there can be none.

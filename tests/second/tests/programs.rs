@@ -1,4 +1,4 @@
-//! The three programs as they are run.
+//! The programs as they are run.
 
 mod common;
 
@@ -12,6 +12,8 @@ use second::Header;
 const HOUR: &str = env!("CARGO_BIN_EXE_hour2");
 const DAY: &str = env!("CARGO_BIN_EXE_day2");
 const IMPORT: &str = env!("CARGO_BIN_EXE_import2");
+const UP: &str = env!("CARGO_BIN_EXE_up2");
+const DOWN: &str = env!("CARGO_BIN_EXE_down2");
 
 fn start(program: &str, arguments: &[&str]) -> std::process::Child {
     let mut command = Command::new(program);
@@ -37,6 +39,15 @@ fn prints(program: &str, input: &str, answer: &str) {
         assert_eq!(output.stderr, b"");
         assert!(output.status.success());
     }
+}
+
+/// What a program that writes a text writes on its two outputs.
+#[track_caller]
+fn writes(program: &str, input: &[u8], stdout: &[u8], stderr: &str) {
+    let output = run_with(program, &[], input);
+    assert_eq!(output.stdout, stdout);
+    assert_eq!(String::from_utf8_lossy(&output.stderr), stderr);
+    assert!(output.status.success());
 }
 
 #[test]
@@ -84,6 +95,24 @@ fn days_on_which_the_clock_changes() {
 }
 
 #[test]
+fn sheets_go_up_and_down() {
+    let surplus = b"\x80\n\n\0 and no LF";
+    let form_1 = day_of(&Header::default(), &one_cent_hours()).into_bytes();
+    let form_1 = [&form_1[..], surplus].concat();
+    let form_2 = [counted_day(24).as_bytes(), surplus].concat();
+    writes(UP, &form_1, &form_2, "");
+    writes(DOWN, &form_2, &form_1, "");
+    writes(UP, &form_2, b"", "refused=2 at=1\n");
+    writes(DOWN, &form_1, b"", "refused=2 at=1\n");
+    writes(DOWN, counted_day(23).as_bytes(), b"", "refused=9 at=2\n");
+    writes(DOWN, counted_day(25).as_bytes(), b"", "refused=9 at=2\n");
+    for program in [UP, DOWN] {
+        writes(program, b"", b"", "refused=1 at=1\n");
+        writes(program, b"form=1\nunit=1\n", b"", "refused=1 at=3\n");
+    }
+}
+
+#[test]
 fn hour_does_not_wait_for_what_follows() {
     let mut child = start(HOUR, &[]);
     let mut stdin = child.stdin.take().expect("a pipe");
@@ -126,7 +155,14 @@ fn hour_does_not_read_what_follows() {
 fn a_closed_output_does_no_harm() {
     let day = day_of(&Header::default(), &one_cent_hours());
     let import = import_of(7, 0, &one_cent_imports());
-    for (program, input) in [(HOUR, WORKED), (DAY, &day), (IMPORT, &import)] {
+    let counted = counted_day(24);
+    for (program, input) in [
+        (HOUR, WORKED),
+        (DAY, &day),
+        (IMPORT, &import),
+        (UP, &day),
+        (DOWN, &counted),
+    ] {
         let mut child = start(program, &[]);
         drop(child.stdout.take());
         let mut stdin = child.stdin.take().expect("a pipe");
@@ -147,11 +183,22 @@ fn an_input_that_cannot_be_read_is_empty() {
         (DAY, "refused=1 at=1\n"),
         (IMPORT, "refused=1 hour=- at=1\n"),
     ] {
-        let directory = File::open(env!("CARGO_MANIFEST_DIR")).expect("a directory");
-        let output = Command::new(program).stdin(directory).output();
-        let output = output.expect("the program ends");
+        let output = unreadable(program);
         assert_eq!(String::from_utf8_lossy(&output.stdout), answer);
         assert_eq!(output.stderr, b"");
         assert!(output.status.success());
     }
+    for program in [UP, DOWN] {
+        let output = unreadable(program);
+        assert_eq!(output.stdout, b"");
+        assert_eq!(output.stderr, b"refused=1 at=1\n");
+        assert!(output.status.success());
+    }
+}
+
+/// The program with a directory as its input.
+fn unreadable(program: &str) -> Output {
+    let directory = File::open(env!("CARGO_MANIFEST_DIR")).expect("a directory");
+    let output = Command::new(program).stdin(directory).output();
+    output.expect("the program ends")
 }

@@ -1,0 +1,2 @@
+-- The front of a sheet decides how its header is judged.
+pub mod Decided
