@@ -10,6 +10,11 @@ answers() {
     done
 }
 
+# The sheets of the folder, one behind the other.
+bytes_of() {
+    (cd "$1" && find . -name '*.txt' -print0 | sort -z | xargs -0 cat)
+}
+
 same_marks() {
     marks | cmp -s - "$work/marks" && pass || fail "$1: a sheet has another time, mode or owner"
 }
@@ -18,6 +23,7 @@ three_years() {
     about="three years: "
     years
     marks >"$work/marks"
+    bytes_of "$user/sheets" >"$work/bytes"
     answers "$user/sheets" >"$work/answers"
     as_user "$up"
     left "up" 0 new 1096
@@ -25,6 +31,7 @@ three_years() {
     answers "$user/sheets" | cmp -s - "$work/answers" && pass || fail "up: \`day\` prints another answer"
     as_user "$down"
     left "down" 0 old 1096
+    bytes_of "$user/sheets" | cmp -s - "$work/bytes" && pass || fail "down: not the bytes of before"
     same_marks "down"
 }
 

@@ -10,12 +10,13 @@ ghost use Rattle.archive.specs.Told.{isForm, faultBy};
 use tariff::Check;
 use tariff::Found;
 
+// Up from form 1 to form 2, or back down.
 pub enum Way {
     Up,
     Down,
 }
 
-// A sheet that moves is refused by nothing; `n` bytes were written.
+// What refuses a sheet, or nothing where it moves; `n` bytes were written.
 pub struct Moved {
     pub found: Found,
     pub n: usize,

@@ -6,7 +6,7 @@ use Prim.Native.Nat.{ℕ, _+_, _-_, _≤_, _<_}
 use native.Mathlib.Nat.{add-zero}
 use native.Mathlib.Numerals.{add-one}
 use native.Mathlib.Omega.{arith}
-use borrow.Author.Tests.{eqb-true, leb-true, leb-false, ltb-true, ltb-false, lt-leb, le-leb, lt-ltb, le-ltb}
+use borrow.Author.Tests.{leb-true, leb-false, ltb-true, ltb-false, lt-leb, le-leb, lt-ltb, le-ltb}
 use lib.Dec.{ltb, leb, eqb}
 use lib.ListN.{length, take, drop, getD, set, length-append, take-append-drop, drop-of-length-le}
 use lib.Seq.{drop-cons, drop-set-lt, getD-take, length-take-le, take-set-le, take-set-lt, take-suc-set, take-take}
@@ -14,6 +14,7 @@ use Rattle.exact.specs.Choice.{if_then_else_}
 use Rattle.exact.proofs.Parts.{by-test}
 use Rattle.text.specs.Text.{LF}
 use Rattle.lines.specs.Squeezed.{RUN, squeezedFrom, squeezed}
+use Rattle.lines.proofs.Squeezed.{no-feed}
 use Rattle.intake.specs.declared.squeeze.Squeeze.{Squeeze}
 use Rattle.text.specs.Number.{isNumeral}
 use Rattle.intake.specs.Squeeze.{standing, squeezeNext, squeezedBy, squeezeAfter}
@@ -26,11 +27,6 @@ digit-tested b h =
     by-test (leb b 57) (λ t. t ≡ isNumeral b)
     (λ e. let l = leb-true b 57 e in sym (rw (le-ltb b 48 h, le-ltb 57 b l) (lt-ltb (b - 48) 10 (omega arith))))
     (λ e. let l = leb-false b 57 e in rw (le-ltb b 48 h, lt-ltb 57 b l))
-
--- a digit is no line feed
-no-feed : (b : ℕ) → isNumeral b ≡ true → eqb b LF ≡ false
-no-feed b d =
-    by-test (eqb b LF) (λ t. t ≡ false) (λ e. sym (rw (eqb-true b LF e) at d)) (λ e. refl)
 
 module _ (b : ℕ) (t : List ℕ) where
   abbrev By : Squeeze → Type 0

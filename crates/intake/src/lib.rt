@@ -230,7 +230,7 @@ pub fn take_some(store: &mut [u8], taken: Taken) -> Taken
     }
 }
 
-// The front of a sheet: `n` bytes of it stand in a store, and whether the input's end was met.
+// The front of a sheet: `n` bytes of it stand in a store. `ended` says that no more is read: the input's end was met, or the store is full.
 pub struct Front {
     pub n: usize,
     pub ended: bool,

@@ -76,10 +76,11 @@ anew (suc j) start run (b ∷ t) h none begun e =
     ap (drop (suc (suc j))) (squeezed-other start run b t on d ∙ ap (λ (x : Bool). b ∷ squeezedFrom x 0 t) (ne-eqb b 10 (none 0 (omega arith))))
     ∙ anew j false 0 t (omega arith) later (λ x. absurd (false≢true x)) e)
 
--- ---- what stands behind the first empty line, and whether anything stands at all
-digit-in : (b : ℕ) → isDigitByte b ≡ true → eqb b 10 ≡ false
-digit-in b d = ne-eqb b 10 (λ z. false≢true (ap isDigitByte (sym z) ∙ d))
+-- a digit is no line feed
+pub no-feed : (b : ℕ) → isDigitByte b ≡ true → eqb b 10 ≡ false
+no-feed b d = ne-eqb b 10 (λ z. false≢true (ap isDigitByte (sym z) ∙ d))
 
+-- ---- what stands behind the first empty line, and whether anything stands at all
 in-line : (start : Bool) (run : ℕ) → (start ≡ true → run < RUN) → ltb run RUN ≡ false → start ≡ false
 in-line true run few e = let l = few refl in let u = ltb-false run RUN e in absurd (omega arith)
 in-line false run few e = refl
@@ -93,11 +94,11 @@ behind-from start run (b ∷ t) few =
     (λ on.
     by-test (isDigitByte b) Same
     (λ d.
-    let inside : behindIn start (b ∷ t) ≡ behindIn false t = rw on (rw (digit-in b d)) in
+    let inside : behindIn start (b ∷ t) ≡ behindIn false t = rw on (rw (no-feed b d)) in
     by-test (ltb run RUN) Same
     (λ l.
     rw (squeezed-stands start run b t on d (ltb-true run RUN l), on)
-    (rw (digit-in b d) (behind-from false (suc run) t (λ x. absurd (false≢true x)))))
+    (rw (no-feed b d) (behind-from false (suc run) t (λ x. absurd (false≢true x)))))
     (λ l. rw (squeezed-goes start run b t on d l, inside, in-line start run few l) (behind-from false run t (λ x. absurd (false≢true x)))))
     (λ d. rw (squeezed-other start run b t on d, on) (behind-from (eqb b 10) 0 t (λ x. omega arith))))
   where

@@ -3,7 +3,6 @@ use mathlib.Core.Path.{_≡_, refl, sym, _∙_, ap}
 use mathlib.Core.Bool.{Bool, true, false, not, _&&_, false≢true}
 use mathlib.Core.List.{List, [], _∷_, _++_, append-nil}
 use Prim.Native.Nat.{ℕ, _+_}
-use borrow.Author.Tests.{ne-eqb}
 use lib.Dec.{eqb}
 use lib.ListN.{length, take}
 use lib.Seq.{take-append-le}
@@ -19,6 +18,7 @@ use Rattle.lines.specs.Line.{isAt, placeIn}
 use Rattle.lines.specs.Cut.{emptyIn}
 use Rattle.lines.specs.Pieces.{PIECE}
 use Rattle.lines.specs.Squeezed.{squeezed}
+use Rattle.lines.proofs.Squeezed.{no-feed}
 use Rattle.header.proofs.HeaderLines.{is-at}
 use Rattle.header.proofs.HeaderAlike.{SameHeader, same-turned, same-then}
 use Rattle.header.proofs.HeaderAlong.{closed-append}
@@ -35,16 +35,13 @@ use Rattle.archive.proofs.ByHeader.{same-fault}
 use Rattle.passing.specs.Passed.{Passed}
 
 -- ---- a header that has closed has its empty line
-digit-goes-on : (b : ℕ) → isNumeral b ≡ true → eqb b LF ≡ false
-digit-goes-on b d = ne-eqb b LF (λ z. false≢true (ap isNumeral (sym z) ∙ d))
-
 has-closed : (s : List ℕ) (start : Bool) (run i : ℕ) → squeezeAfter (record { header = true; start = start; run = run }) s .header ≡ false → isAt (emptyIn start s i) ≡ true
 unfolding emptyIn squeezeAfter squeezeNext
 has-closed [] start run i = λ e. absurd (false≢true (sym e))
 has-closed (b ∷ t) start run i =
     by-test (isNumeral b)
     (λ x. squeezeAfter (squeezeNext (record { header = true; start = start; run = run }) b) t .header ≡ false → isAt (emptyIn start (b ∷ t) i) ≡ true)
-    (λ d e. rw (digit-goes-on b d) (has-closed t false _ (i + 1) (rw d at e)))
+    (λ d e. rw (no-feed b d) (has-closed t false _ (i + 1) (rw d at e)))
     (λ d e. inside (eqb b LF) start (λ s. has-closed t s 0 (i + 1)) (rw d at e))
   where
     inside : (feed begins : Bool) → ((s : Bool) → squeezeAfter (record { header = true; start = s; run = 0 }) t .header ≡ false → isAt (emptyIn s t (i + 1)) ≡ true)
