@@ -1,7 +1,8 @@
-/* The block call of libculvertjig.a: settles one hour block of a day sheet.
+/* The block calls of libculvertjig.a. Each settles one hour block: culvertjig_block of a unit's day sheet, culvertjig_line_block of an
+ * internal controllable line's day.
  *
- * `rt staticlib culvertjig` proves the library and writes the archive, for x86-64 Linux. docs/sheet.md has the block, key by key, and
- * docs/answers.md what each refusal means. tests/examples.sh holds this declaration against crates/culvertjig/src/lib.rt.
+ * `rt staticlib culvertjig` proves the library and writes the archive, for x86-64 Linux. docs/sheet.md has the blocks, key by key, and
+ * docs/answers.md what each refusal means. tests/examples.sh holds these declarations against crates/culvertjig/src/lib.rt.
  */
 #ifndef CULVERTJIG_H
 #define CULVERTJIG_H
@@ -40,6 +41,12 @@ extern "C" {
  */
 uint64_t culvertjig_block(const uint8_t *block, size_t block_length, bool excluded, int64_t expected, uint64_t hours, int64_t *row,
                           size_t row_length, uint64_t *place, int64_t *grains, int64_t *cents);
+
+/* The same for a block of an internal controllable line, which has other keys (docs/sheet.md). `excluded` is whether its hour's mark is 0,
+ * and check 6 never refuses it.
+ */
+uint64_t culvertjig_line_block(const uint8_t *block, size_t block_length, bool excluded, int64_t expected, uint64_t hours, int64_t *row,
+                               size_t row_length, uint64_t *place, int64_t *grains, int64_t *cents);
 
 #ifdef __cplusplus
 }

@@ -3,11 +3,12 @@
 # <!-- run --> is run in the repository, with the programs on the path, and has to
 # print the block behind <!-- prints -->, where ` ...` leaves out a line's rest.
 #
-#   sh commands.sh PATH-OF-HOUR PATH-OF-DAY PATH-OF-IMPORT PATH-OF-UP PATH-OF-DOWN
+#   sh commands.sh PATH-OF-HOUR PATH-OF-DAY PATH-OF-IMPORT PATH-OF-LINE PATH-OF-UP PATH-OF-DOWN
 #
-# The command for the rows that exclude an hour is then tried on every hour of
-# other headers, against what the program pays. The last line counts what passed
-# and what failed; the status is 1 if anything failed.
+# The commands for the rows that exclude an hour, a unit's and a controllable
+# line's, are then tried on every hour of other headers, against what the program
+# pays. The last line counts what passed and what failed; the status is 1 if
+# anything failed.
 . "$(dirname -- "$0")/common.sh"
 
 all_programs commands "$@"
@@ -15,8 +16,8 @@ work=$(cd "$work" && pwd) || exit 2
 root=$(cd "$(dirname -- "$0")/.." && pwd) || exit 2
 page=$root/docs/answers.md
 
-mkdir "$work/bin" && cp "$1" "$work/bin/hour" && cp "$2" "$work/bin/day" && cp "$3" "$work/bin/import" && cp "$4" "$work/bin/up" &&
-    cp "$5" "$work/bin/down" || exit 2
+mkdir "$work/bin" || exit 2
+copy_programs "$work/bin" "$@"
 PATH=$work/bin:$PATH
 cd "$root" || exit 2
 
@@ -51,10 +52,12 @@ while [ "$n" -le "$count" ]; do
     n=$((n + 1))
 done
 
-# --- Which hours are excluded: the command that reads `rtc`, and the program, on
-# a day that pays in every hour. A mark at each hour, one row after the other.
+# --- Which hours are excluded: the command that reads `rtc`, or `mark`, and the
+# program, on a day that pays in every hour. A mark at each hour, one row after
+# the other.
 excluding=$(grep -l 'rtc' "$work"/run.*)
-[ -n "$excluding" ] || fail "the page has no command for an excluded hour"
+unmarked=$(grep -l '"mark"' "$work"/run.*)
+[ -n "$excluding" ] && [ -n "$unmarked" ] || fail "the page has no command for an excluded hour"
 
 # A day of $5 hours that pays in each, but for what its header says: digit $2 of its row $1, from 0, is $3, and rtc $4. Form 1 has 24 hours.
 marked() {
@@ -73,16 +76,28 @@ marked() {
         END { for (i = 0; i < hours; i++) { sub(/hour=[0-9]*/, "hour=" i, block); printf "\n%s", block } }' samples/hour/sample.txt
 }
 
-# The hours of $2 that the command excludes in $work/sheet, and those that pay 0.
+# A controllable line's day of $2 hours that pays in each, but for the one at $1: each mark is $3, and that one is 0.
+line_marked() {
+    awk -v at="$1" -v hours="$2" -v digit="$3" '
+        $0 == "" { block++; next }
+        block == 6 { lines = lines $0 "\n" }
+        END {
+            for (i = 0; i < hours; i++) all = all (i == at ? 0 : digit)
+            print "line=314\nhours=" hours "\nmark=" all
+            for (i = 0; i < hours; i++) { sub(/hour=[0-9]*/, "hour=" i, lines); printf "\n%s", lines }
+        }' samples/line/paid.txt
+}
+
+# The hours of $2 that the command in the file $3 excludes in $work/sheet, and those to which the program $4 pays 0.
 same_hours() {
     h=0
     while [ "$h" -lt "$2" ]; do
-        sed "s/-v hour=[0-9]*/-v hour=$h/; s|samples/day/mixed.txt|$work/sheet|" "$excluding" >"$work/command"
+        sed "s/-v hour=[0-9]*/-v hour=$h/; s|samples/$4/[a-z]*.txt|$work/sheet|" "$3" >"$work/command"
         [ -z "$(sh "$work/command")" ] || echo "hour=$h pay=0"
         h=$((h + 1))
     done >"$work/want"
-    day <"$work/sheet" | grep ' pay=0$' >"$work/got"
-    if cmp -s "$work/got" "$work/want"; then pass; else fail "$2 hours, $1: $(differ "$work/got" "$work/want")"; fi
+    "$4" <"$work/sheet" | grep ' pay=0$' >"$work/got"
+    if cmp -s "$work/got" "$work/want"; then pass; else fail "$4, $2 hours, $1: $(differ "$work/got" "$work/want")"; fi
 }
 
 for row in cat x1 x2 x3 x4 x5 x6; do
@@ -90,18 +105,26 @@ for row in cat x1 x2 x3 x4 x5 x6; do
         digit=1
         [ "$row" = cat ] && digit=0
         marked "$row" "$at" "$digit" 1 24 >"$work/sheet"
-        same_hours "$row at hour $at" 24
+        same_hours "$row at hour $at" 24 "$excluding" day
     done
 done
 for row in x4 x5 x6; do
     marked "$row" 12 1 0 24 >"$work/sheet"
-    same_hours "$row at hour 12 with rtc=0" 24
+    same_hours "$row at hour 12 with rtc=0" 24 "$excluding" day
 done
 for hours in 23 25; do
     for at in 0 $((hours - 3)) $((hours - 2)) $((hours - 1)); do
         for row in x3 x4; do
             marked "$row" "$at" 1 0 "$hours" >"$work/sheet"
-            same_hours "$row at hour $at" "$hours"
+            same_hours "$row at hour $at" "$hours" "$excluding" day
+        done
+    done
+done
+for hours in 23 24 25; do
+    for at in 0 11 $((hours - 1)); do
+        for digit in 1 2; do
+            line_marked "$at" "$hours" "$digit" >"$work/sheet"
+            same_hours "0 at hour $at, else $digit" "$hours" "$unmarked" line
         done
     done
 done

@@ -25,23 +25,44 @@ need() {
     done
 }
 
-# A script NAME.sh that is told the paths of the three programs: `three_programs NAME "$@"` gives them the names that the others use.
-three_programs() {
-    [ $# -eq 4 ] || usage "$1.sh PATH-OF-HOUR PATH-OF-DAY PATH-OF-IMPORT"
-    need "$2" "$3" "$4"
+# A script NAME.sh that is told the paths of the four programs that settle, `four_programs NAME "$@"`: `named` finds them.
+four_programs() {
+    [ $# -eq 5 ] || usage "$1.sh PATH-OF-HOUR PATH-OF-DAY PATH-OF-IMPORT PATH-OF-LINE"
+    need "$2" "$3" "$4" "$5"
     work_in "$1"
     hour=$2
     day=$3
     import=$4
+    line=$5
 }
 
-# The same for a script that is told the paths of all programs.
+# The one of them that has this name, as $program.
+named() {
+    case $1 in
+        hour) program=$hour ;;
+        day) program=$day ;;
+        import) program=$import ;;
+        line) program=$line ;;
+    esac
+}
+
+# The same for a script that is told the paths of all programs, the two that move a sheet behind the four.
 all_programs() {
-    [ $# -eq 6 ] || usage "$1.sh PATH-OF-HOUR PATH-OF-DAY PATH-OF-IMPORT PATH-OF-UP PATH-OF-DOWN"
+    [ $# -eq 7 ] || usage "$1.sh PATH-OF-HOUR PATH-OF-DAY PATH-OF-IMPORT PATH-OF-LINE PATH-OF-UP PATH-OF-DOWN"
     name=$1
     shift
     need "$@"
     work_in "$name"
+}
+
+# Copies them, `copy_programs FOLDER "$@"`, each to its name in that folder.
+copy_programs() {
+    folder=$1
+    shift
+    for name in hour day import line up down; do
+        cp "$1" "$folder/$name" || exit 2
+        shift
+    done
 }
 
 # A folder of this name for the script's files, as long as it runs: $work.

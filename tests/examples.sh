@@ -2,7 +2,7 @@
 # The library as C and Rust programs use it. include/culvertjig.h and the
 # declarations of the Rust callers have to say what crates/culvertjig/src/lib.rt
 # says, parameter by parameter. The examples are built by README's commands, and
-# have to settle the sample hour.
+# have to settle the sample hour, or the sample days of a controllable line.
 #
 #   sh examples.sh PATH-OF-ARCHIVE
 #
@@ -79,25 +79,27 @@ declared_in_rust() {
     }' "$1" | sort
 }
 
-# What a file declares in this language is what the library exports.
+# What a file declares in this language is what the library exports: all of it,
+# or some, as $3 says.
 as_exported() {
     exported "$2" >"$work/exported"
     "declared_in_$2" "$1" >"$work/declared"
-    # The header has all of it; a caller leaves out what it does not call.
     if [ ! -s "$work/exported" ] || [ ! -s "$work/declared" ]; then
         fail "${1#"$root/"}: no function was found there or in $source"
-    elif [ "$2" = c ] && cmp -s "$work/declared" "$work/exported"; then
+    elif [ "$3" = all ] && cmp -s "$work/declared" "$work/exported"; then
         pass
-    elif [ "$2" = rust ] && [ -z "$(comm -13 "$work/exported" "$work/declared")" ]; then
+    elif [ "$3" = some ] && [ -z "$(comm -13 "$work/exported" "$work/declared")" ]; then
         pass
     else
         fail "${1#"$root/"}: $(differ "$work/declared" "$work/exported")"
     fi
 }
 
-as_exported "$header" c
-as_exported "$root/examples/settle.rs" rust
-as_exported "$root/tests/library/src/archive.rs" rust
+# The header has all of it, and all of it is compared with the second program;
+# an example leaves out what it does not call.
+as_exported "$header" c all
+as_exported "$root/tests/library/src/archive.rs" rust all
+for example in "$root"/examples/*.rs; do as_exported "$example" rust some; done
 
 # The header's comment explains each parameter, on a line that begins with it.
 for name in $(exported rust | tr '(,' '\n\n' | sed -n 's/^ *\([a-z_]*\): .*/\1/p' | sort -u); do
@@ -105,7 +107,7 @@ for name in $(exported rust | tr '(,' '\n\n' | sed -n 's/^ *\([a-z_]*\): .*/\1/p
 done
 
 # --- The examples, by README's commands, as they stand in the repository.
-mkdir -p "$work/clone/target/staticlib" "$work/clone/samples/hour" || exit 2
+mkdir -p "$work/clone/target/staticlib" "$work/clone/samples/hour" "$work/clone/samples/line" || exit 2
 cp -R "$root/include" "$root/examples" "$work/clone" && cp "$1" "$work/clone/target/staticlib/libculvertjig.a" || exit 2
 cd "$work/clone" || exit 2
 
@@ -117,14 +119,18 @@ while IFS= read -r command; do
         fail "$command: $(head -n 1 "$work/out")"
     fi
 done <"$work/commands"
-[ "$(grep -c . "$work/commands")" -eq 2 ] || fail "README does not build two examples"
+for example in examples/*; do
+    [ "$(grep -c -F " $example " "$work/commands")" -eq 1 ] || fail "README does not build $example"
+done
 
 # Where warnings count, and in C++.
-if cc -std=c99 -pedantic -Wall -Wextra -Werror -Iinclude -fsyntax-only examples/settle.c 2>"$work/err"; then
-    pass
-else
-    fail "examples/settle.c: $(head -n 1 "$work/err")"
-fi
+for example in examples/*.c; do
+    if cc -std=c99 -pedantic -Wall -Wextra -Werror -Iinclude -fsyntax-only "$example" 2>"$work/err"; then
+        pass
+    else
+        fail "$example: $(head -n 1 "$work/err")"
+    fi
+done
 if echo 'int main() { return 0; }' | cc -x c++ -fsyntax-only - 2>/dev/null; then
     if echo '#include <culvertjig.h>' | cc -x c++ -Wall -Wextra -Werror -Iinclude -fsyntax-only - 2>"$work/err"; then
         pass
@@ -135,7 +141,7 @@ else
     echo "skipped: no C++ compiler, so the header was not tried there"
 fi
 
-# --- What they print, each in the place of the sample hour.
+# --- What they print, each in the place of the sample hour or day.
 
 # The line of an example for an answer of `hour`: the sum, the cents and interval 1; or the refusal.
 line_for() {
@@ -143,12 +149,13 @@ line_for() {
         $3 == "pay" { printf "grains=%.0f pay=%s, interval 1: %s\n", sum, $4, first }' "$1"
 }
 
-# The built programs are what README's commands write behind -o.
+# The programs of the examples $1, of any language, are what README's commands
+# write behind -o.
 settles() {
-    for program in $(sed 's/.* -o \([^ ]*\).*/\1/' "$work/commands"); do
+    for program in $(sed -n "/ examples\/$1\./s/.* -o \([^ ]*\).*/\1/p" "$work/commands"); do
         about="$program: "
         "./$program" >"$work/got" 2>"$work/err"
-        answered "$1"
+        answered "$2"
     done
     about=
 }
@@ -156,7 +163,7 @@ settles() {
 for name in sample reach seconds; do
     cp "$root/samples/hour/$name.txt" samples/hour/sample.txt
     line_for "$root/samples/hour/$name.out" >"$work/want"
-    settles "$name"
+    settles settle "$name"
 done
 
 # The longest block: a row of 30 places has room for it.
@@ -167,7 +174,14 @@ done
     done
 } >samples/hour/sample.txt
 echo "grains=108000000000 pay=30000, interval 1: 3600000000" >"$work/want"
-settles "30 intervals"
+settles settle "30 intervals"
+
+# A controllable line's hours, as `line` answers them.
+for name in mixed paid autumn; do
+    cp "$root/samples/line/$name.txt" samples/line/mixed.txt
+    grep '^hour=' "$root/samples/line/$name.out" >"$work/want"
+    settles line "$name"
+done
 
 cd "$root" || exit 2
 finish

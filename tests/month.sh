@@ -2,7 +2,7 @@
 # A month of sheets, by the commands that README has: they are taken out of it,
 # and run in the home of a user who has installed the programs as it says.
 #
-#   sh month.sh PATH-OF-HOUR PATH-OF-DAY PATH-OF-IMPORT PATH-OF-UP PATH-OF-DOWN
+#   sh month.sh PATH-OF-HOUR PATH-OF-DAY PATH-OF-IMPORT PATH-OF-LINE PATH-OF-UP PATH-OF-DOWN
 #
 # Each way of running them, on this machine and by GNU parallel, goes through
 # corrected and added sheets, answers that are cut or gone, runs that are killed
@@ -31,16 +31,16 @@ install=$(commands "Install" | grep -v '^rt ')
 here=$(command_with 'settle day sheets' parallel)
 there=$(command_with 'settle day sheets parallel --sshloginfile nodes' none)
 imports=$(command_with 'settle import imports' none)
+lines=$(command_with 'settle line lines' none)
 totals=$(command_with 'grep -rL' none)
 refusals=$(command_with 'grep -rH' none)
-found "$install" "$here" "$there" "$imports" "$totals" "$refusals"
+found "$install" "$here" "$there" "$imports" "$lines" "$totals" "$refusals"
 
 # --- The user: programs as installed from a clone that is gone, and sheets.
 
 mkdir -p "$clone/target/bin" "$clone/tools" "$home" "$user" || exit 2
-cp "$1" "$clone/target/bin/hour" && cp "$2" "$clone/target/bin/day" && cp "$3" "$clone/target/bin/import" &&
-    cp "$4" "$clone/target/bin/up" && cp "$5" "$clone/target/bin/down" &&
-    cp "$root/tools/settle" "$root/tools/archive" "$clone/tools" || exit 2
+copy_programs "$clone/target/bin" "$@"
+cp "$root/tools/settle" "$root/tools/archive" "$clone/tools" || exit 2
 if (cd "$clone" && HOME=$home && export HOME && sh -e -c "$install") 2>"$work/err"; then
     pass
 else

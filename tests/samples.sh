@@ -3,7 +3,7 @@
 # goes through its program, and what is printed has to be NAME.out, byte for
 # byte. Then docs/answers.md: what it quotes has to stand in the samples.
 #
-#   sh samples.sh PATH-OF-HOUR PATH-OF-DAY PATH-OF-IMPORT
+#   sh samples.sh PATH-OF-HOUR PATH-OF-DAY PATH-OF-IMPORT PATH-OF-LINE
 #
 # What the page quotes, a sample being named as in hour/reach:
 #   <!-- sample: NAME [H] --> stands before a quoted block. In it `L | text` is
@@ -18,17 +18,13 @@
 # passed and what failed; the status is 1 if anything failed.
 . "$(dirname -- "$0")/common.sh"
 
-three_programs samples "$@"
+four_programs samples "$@"
 root=$(dirname -- "$0")/..
 page=$root/docs/answers.md
 
 # --- Each sample through its program.
-for name in hour day import; do
-    case $name in
-        hour) program=$hour ;;
-        day) program=$day ;;
-        import) program=$import ;;
-    esac
+for name in hour day import line; do
+    named "$name"
     for text in "$root/samples/$name"/*.txt; do
         said=${text%.txt}.out
         label=$name/$(basename "$text" .txt)
@@ -81,12 +77,12 @@ mark == "column:" {
     if (inside) finish()
     next
 }
-/^\| `(hour|day|import)\// { start("last:", cell(1), "-"); answer(cell(2)); finish(); next }
+/^\| `(hour|day|import|line)\// { start("last:", cell(1), "-"); answer(cell(2)); finish(); next }
 # "prints" may stand at a line end, so a line is read together with the one before.
 {
     both = before " " $0
     before = $0
-    while (match(both, /`(hour|day|import)\/[a-z0-9-]+` prints `[^`]+`/)) {
+    while (match(both, /`(hour|day|import|line)\/[a-z0-9-]+` prints `[^`]+`/)) {
         split(substr(both, RSTART, RLENGTH), codes, "`")
         both = before = substr(both, RSTART + RLENGTH)
         start("last:", codes[2], "-")
@@ -138,12 +134,12 @@ done <"$work/list"
 
 # --- Every name on the page is a sample's, and every sample is named there.
 awk '{
-    while (match($0, /`(hour|day|import)\/[a-z0-9-]+`/)) {
+    while (match($0, /`(hour|day|import|line)\/[a-z0-9-]+`/)) {
         print substr($0, RSTART + 1, RLENGTH - 2)
         $0 = substr($0, RSTART + RLENGTH)
     }
 }' "$page" | sort -u >"$work/named"
-(cd "$root/samples" && ls hour/*.txt day/*.txt import/*.txt) | sed 's/\.txt$//' | sort -u >"$work/there"
+(cd "$root/samples" && ls hour/*.txt day/*.txt import/*.txt line/*.txt) | sed 's/\.txt$//' | sort -u >"$work/there"
 for name in $(comm -23 "$work/named" "$work/there"); do
     fail "the page names $name, which is no sample"
 done

@@ -3,7 +3,7 @@
 # answers that stand beside them, its tables have the reader's keys in the
 # reader's order, and every range is the reader's on both sides.
 #
-#   sh sheet.sh PATH-OF-HOUR PATH-OF-DAY PATH-OF-IMPORT
+#   sh sheet.sh PATH-OF-HOUR PATH-OF-DAY PATH-OF-IMPORT PATH-OF-LINE
 #
 # What the page says of itself, each before a fenced block or a table:
 #   <!-- listing: NAME -->                    a text, or a part of one
@@ -13,13 +13,13 @@
 #   <!-- keys: NAME.. lines A to B, keys K.. -->   the next rows are these keys of
 #       the reader, and stand on these lines of each listing. K is a kind of line,
 #       for all of its keys in their order, or one key of it, KIND.N; K=L is a row
-#       for both.
+#       for both. A key may have its row in more than one table.
 # What it says of the count of hours is tried at the end, for each of the three.
 # The last line counts what passed and what failed; the status is 1 if anything
 # failed.
 . "$(dirname -- "$0")/common.sh"
 
-three_programs sheet "$@"
+four_programs sheet "$@"
 root=$(dirname -- "$0")/..
 page=$root/docs/sheet.md
 
@@ -72,11 +72,7 @@ with_blocks() {
 
 # Runs the program of this name on $work/text.
 run() {
-    case $1 in
-        hour) program=$hour ;;
-        day) program=$day ;;
-        import) program=$import ;;
-    esac
+    named "$1"
     within 20 "$program" <"$work/text" >"$work/got" 2>"$work/err"
 }
 
@@ -103,7 +99,7 @@ awk 'NR == FNR { kind = $1; sub(/\..*/, "", kind); all[kind] = all[kind] " " $1;
     { n = split($1 in all ? all[$1] : $1, k, " "); for (i = 1; i <= n; i++) print k[i], $2, $3, $4 }' \
     "$work/reader" "$work/kinds" >"$work/numbers"
 paste -d ' ' "$work/numbers" "$work/rows" >"$work/table"
-awk '{ n = split($1, k, "="); for (i = 1; i <= n; i++) print k[i], $5 }' "$work/table" | sort >"$work/keys"
+awk '{ n = split($1, k, "="); for (i = 1; i <= n; i++) print k[i], $5 }' "$work/table" | sort -u >"$work/keys"
 sort -o "$work/reader" "$work/reader"
 if cmp -s "$work/reader" "$work/keys"; then
     pass
@@ -129,6 +125,11 @@ changed() {
     }' "$work/listing.$1"
 }
 
+# The text of the part $1 and 25 blocks like $2, of which the first is the changed one.
+first_of() {
+    { cat "$work/listing.$1" "$work/changed"; echo; with_blocks /dev/null "$work/listing.$2" 25 | sed '1,/^$/d'; } >"$work/text"
+}
+
 # The number of the check that refuses line $2 of the listing $1, if it is its
 # first block or its header, with key $3 at $4; 0 where none refuses that line.
 refusal_of() {
@@ -137,9 +138,11 @@ refusal_of() {
         form-*) with_blocks "$work/changed" "$work/listing.block" >"$work/text" && run day ;;
         block) cp "$work/changed" "$work/text" && run hour ;;
         import*) with_blocks "$work/changed" "$work/listing.curtailed" >"$work/text" && run import ;;
-        curtailed) { cat "$work/listing.import-25" "$work/changed"; echo; cat "$work/rest"; } >"$work/text" && run import ;;
+        curtailed) first_of import-25 curtailed && run import ;;
+        line*) with_blocks "$work/changed" "$work/listing.transfer" >"$work/text" && run line ;;
+        transfer) first_of line-25 transfer && run line ;;
     esac
-    sed -n "s/^refused=\([0-9]*\) .*at=$2\$/\1/p; 1q" "$work/got" | grep . || echo 0
+    sed -n "s/^\(hour=0 \)\{0,1\}refused=\([0-9]*\) .*at=$2\$/\2/p; 1q" "$work/got" | grep . || echo 0
 }
 
 # With key $3 at $4 line $2 is refused by one of the checks $5, or by none.
@@ -188,7 +191,6 @@ digits_row() {
 
 # What may be said of a line whose numbers are in their ranges.
 admitted="0 3 4 5 6 7"
-with_blocks /dev/null "$work/listing.curtailed" 25 | sed '1,/^$/d' >"$work/rest"
 
 # Tries a row of the page, with key $4, unit $5 and range $6, on the lines $2 to $3 of the listing $1.
 try_row() {

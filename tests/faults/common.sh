@@ -1,4 +1,4 @@
-# What the faults of the three programs share: how a program is run, how it is
+# What the faults of the programs share: how a program is run, how it is
 # judged, and the bytes that texts are made of. Read by faults.sh, behind the
 # common.sh of all scripts.
 

@@ -1,19 +1,7 @@
-# `day`: a refused hour leaves the others as they are and withholds the total.
+# `day`: a unit's day.
 
-most_lines=33
-
-refused_at() {
-    if [ "$1" = - ]; then
-        echo "refused=1 at=$2"
-    else
-        sed "s/^hour=$1 .*/hour=$1 refused=1 at=$2/; s/^total=.*/total=-/" "$work/paid"
-    fi >"$work/want"
-}
-
-withheld() {
-    sed 's/^total=.*/total=-/' "$work/paid" >"$work/want"
-}
+. "$here/faults/hours.sh"
 
 sheet_cases "$here/../samples/day/paid.txt"
 counted_cases "$here/../samples/day/paid.txt"
-long_rows
+long_rows unit cat x3 x6

@@ -149,44 +149,50 @@ with_row() {
     printf '%s=' "$1"
     cat
     printf '%s\n' "$2"
-    sed "1,/^$1=/d" "$work/header"
+    sed -n "/^$1=/,\$p" "$work/header" | sed 1d
 }
 
-# How a row of $1 MB under 22 hours is refused: by the count, or for a letter at
-# its far end.
+# The answer is FORM at the header's line that has the key $1.
+form_at() {
+    refused_at - "$(sed -n "/^$1=/=" "$work/good.0")"
+}
+
+# How row $1 with $2 MB under 22 hours is refused: by the count, or for a letter
+# at its far end.
 long_row() {
     under 22
     echo "refused=2 at=2" >"$work/want"
-    megabytes "$1" 0 | with_row x3 '' | in_place_of 0 | run 120
-    answered "a row of $1 MB under 22 hours"
-    echo "refused=1 at=8" >"$work/want"
-    megabytes "$1" 0 | with_row x3 x | in_place_of 0 | run 120
-    answered "a row of $1 MB and a letter under 22 hours"
+    megabytes "$2" 0 | with_row "$1" '' | in_place_of 0 | run 120
+    answered "a row of $2 MB under 22 hours"
+    form_at "$1"
+    megabytes "$2" 0 | with_row "$1" x | in_place_of 0 | run 120
+    answered "a row of $2 MB and a letter under 22 hours"
 }
 
+# The key $1 has a number, and $2, $3 and $4 are the first, a middle and the last
+# row.
 long_rows() {
-    long_row 50
-    { sed '/^x3=/,$d' "$work/header"; printf x3=; fifty 0; } | run 60
+    long_row "$3" 50
+    { sed "/^$3=/,\$d" "$work/header"; printf '%s=' "$3"; fifty 0; } | run 60
     answered "a row of 50 MB up to the end under 22 hours"
     under 25
-    fifty 0 | with_row x3 '' | in_place_of 0 | run 60
+    fifty 0 | with_row "$3" '' | in_place_of 0 | run 60
     answered "a row of 50 MB under 25 hours"
     # The second program would take a good deal more memory than that.
     if [ "$frugal" = yes ]; then
-        long_row 200
+        long_row "$3" 200
     fi
 
     under -24
     echo "refused=2 at=2" >"$work/want"
-    fifty 9 | with_row cat '' | in_place_of 0 | run 60
+    fifty 9 | with_row "$2" '' | in_place_of 0 | run 60
     answered "a row of 50 MB of nines under -24 hours"
-    echo "refused=1 at=12" >"$work/want"
-    { fifty 1 | with_row x6 ''; cat "$work/after.0"; } | run 60
+    refused_at - $(($(wc -l <"$work/good.0") + 1))
+    { fifty 1 | with_row "$4" ''; cat "$work/after.0"; } | run 60
     answered "a row of 50 MB, and no empty line behind it"
-    echo "refused=1 at=3" >"$work/want"
-    fifty 7 | with_row unit '' | in_place_of 0 | run 60
-    answered "a unit of 50 MB"
-    echo "refused=1 at=2" >"$work/want"
-    fifty 2 | with_row hours '' | in_place_of 0 | run 60
-    answered "hours of 50 MB"
+    for key in "$1" hours; do
+        form_at "$key"
+        fifty 7 | with_row "$key" '' | in_place_of 0 | run 60
+        answered "a number of 50 MB behind $key"
+    done
 }

@@ -1,6 +1,7 @@
-# Texts of a header and the blocks of a day, which `day` and `import` read to the
-# end of input or to the first byte behind the last block. Read by faults.sh.
-# day.sh and import.sh say first how long a block is and how the answers look:
+# Texts of a header and the blocks of a day, which `day`, `import` and `line` read
+# to the end of input or to the first byte behind the last block. Read by
+# faults.sh. day.sh, import.sh and line.sh say first how long a block is and how
+# the answers look:
 #   most_lines             the lines of the longest good block
 #   refused_at HOUR LINE   writes the sample's answer to $work/want, once that
 #                          hour is refused for its form; the header's hour is -
@@ -17,7 +18,9 @@ of_hours() {
         $0 == "" { if (++at > hours) exit; print; next }
         !at && /^form=/ { print "form=2"; $0 = "hours=" hours }
         !at && /^import=/ { $0 = $0 " hours=" hours }
+        !at && /^hours=/ { $0 = "hours=" hours }
         !at && /^cat=/ { $0 = substr($0 "1", 1, hours + 4) }
+        !at && /^mark=/ { $0 = substr($0 "1", 1, hours + 5) }
         !at && /^x/ { $0 = substr($0 "0", 1, hours + 3) }
         at == middle { again = again $0 "\n" }
         { print }

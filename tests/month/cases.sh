@@ -216,6 +216,10 @@ other_commands() {
     for name in paid range autumn; do cp "$samples/import/$name.txt" "$user/imports"; done
     as_user "$imports"
     for name in paid range autumn; do cmp -s "$samples/import/$name.out" "$user/imports/$name.out" && pass || fail "$imports: $name"; done
+    mkdir -p "$user/lines"
+    for name in paid autumn header-range surplus; do cp "$samples/line/$name.txt" "$user/lines"; done
+    as_user "$lines"
+    for name in paid autumn header-range surplus; do cmp -s "$samples/line/$name.out" "$user/lines/$name.out" && pass || fail "$lines: $name"; done
 
     for sheet in 1 2 3; do
         for cut in 'head -n 3' 'head -c -1' 'head -c 4' 'cat'; do answers_break_off "$sheet" "$cut"; done

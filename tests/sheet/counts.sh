@@ -1,5 +1,5 @@
-# What the sheet's page says of the two forms and of the count of hours. Read by
-# sheet.sh.
+# What the sheet's page says of the two forms, of a controllable line's header and
+# of the count of hours. Read by sheet.sh.
 
 # The listing $2, through sed, and blocks like the other listing for its hours: its program prints $5.
 prints_for() {
@@ -10,9 +10,12 @@ prints_for() {
     answered "$2, $4"
 }
 
-# What is refused of the two forms.
+# What is refused of the two forms, and of a controllable line's header.
 while read -r listing change answer; do
-    prints_for day "$listing" block "$change" "$answer"
+    case $listing in
+        form-*) prints_for day "$listing" block "$change" "$answer" ;;
+        line*) prints_for line "$listing" transfer "$change" "$answer" ;;
+    esac
 done <<'END'
 form-1 1{p;s/.*/hours=24/;} refused=1 at=2
 form-2 2d refused=1 at=2
@@ -29,6 +32,26 @@ form-1 11d refused=1 at=11
 form-2 12d refused=1 at=12
 form-2 2s/=.*/=22/;8s/0$/o/ refused=1 at=8
 form-2 2s/=.*/=22/;12d refused=1 at=12
+line 1d refused=1 at=1
+line 1{h;s/.*/form=2/;p;g;} refused=1 at=1
+line 1s/=.*/=0314/ refused=1 at=1
+line 1s/=.*/=0/ refused=2 at=1
+line 2d refused=1 at=2
+line 2s/=.*/=024/ refused=1 at=2
+line 2s/=.*/=/ refused=1 at=2
+line 2s/=.*/=22/ refused=2 at=2
+line 2s/=.*/=22/;3s/=.*/=/ refused=2 at=2
+line 2s/=.*/=22/;3s/0$/3/ refused=2 at=2
+line 2s/=.*/=25/ refused=1 at=3
+line-25 2s/=.*/=24/ refused=1 at=3
+line 3s/0$/3/ refused=2 at=3
+line 3s/0$/-/ refused=1 at=3
+line 4d refused=1 at=4
+line 3p refused=1 at=4
+line 1s/=.*/=0/;3s/0$/3/ refused=2 at=1
+line 1s/=.*/=0/;4d refused=1 at=4
+line 2s/=.*/=22/;3s/0$/o/ refused=1 at=3
+line 2s/=.*/=22/;4d refused=1 at=4
 END
 prints_for import import-25 curtailed 's/ cts=0 hours=25/ hours=25 cts=0/' "refused=1 hour=- at=1"
 prints_for import import-25 curtailed 's/ hours=25/&&/' "refused=1 hour=- at=1"
@@ -45,20 +68,26 @@ has_line() {
     fi
 }
 
+# The program's day of $hours hours, with the head and the block of these listings: the total is $4.
+counted() {
+    awk -F= -v hours="$hours" '$1 == "hours" { $2 = hours }
+        $1 ~ /^(cat|x[1-6]|mark)$/ { $2 = substr($2, 1, hours) }
+        { print NF == 2 ? $1 "=" $2 : $0 }' "$work/listing.$2" >"$work/changed"
+    has_line "$1" "$3" "$hours" 0 "total=$4"
+    has_line "$1" "$3" "$before" 0 "hour=$before refused=1 at=1"
+    has_line "$1" "$3" $((hours + 1)) 0 total=-
+    has_line "$1" "$3" "$hours" 23 "hour=0 refused=3 at=1"
+    has_line "$1" "$3" "$hours" 24 "hour=0 refused=$late at=1"
+    has_line "$1" "$3" "$hours" 25 "hour=0 refused=2 at=1"
+}
+
 # Each count: as many blocks, a block fewer and one more, and which hours a block may say.
 for hours in 23 24 25; do
     late=2
     [ "$hours" -eq 25 ] && late=3
     before=$((hours - 1))
-    awk -F= -v hours="$hours" '$1 == "hours" { $2 = hours }
-        $1 ~ /^(cat|x[1-6])$/ { $2 = substr($2, 1, hours) }
-        { print NF == 2 ? $1 "=" $2 : $0 }' "$work/listing.form-2" >"$work/changed"
-    has_line day block "$hours" 0 total=505000
-    has_line day block "$before" 0 "hour=$before refused=1 at=1"
-    has_line day block $((hours + 1)) 0 total=-
-    has_line day block "$hours" 23 "hour=0 refused=3 at=1"
-    has_line day block "$hours" 24 "hour=0 refused=$late at=1"
-    has_line day block "$hours" 25 "hour=0 refused=2 at=1"
+    counted day form-2 block 505000
+    counted line line-25 transfer $((13450 * (hours / 25 + 2)))
     sed "s/=25/=$hours/" "$work/listing.import-25" >"$work/changed"
     has_line import curtailed "$hours" 0 "import=815 pay=$((hours * 15000))"
     has_line import curtailed "$before" 0 "refused=1 hour=$before at=1"

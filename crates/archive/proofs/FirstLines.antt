@@ -13,7 +13,7 @@ use Rattle.text.specs.Number.{digitAt, moreDigits, naturalAt, numberAt}
 use Rattle.lines.specs.Line.{valueAt, fieldAt, afterFields, valueIn}
 use Rattle.header.specs.declared.layout.Line.{Line}
 use Rattle.header.specs.Layout.{saidAt, headerLine, linePlace, lineInRange, numberOn}
-use Rattle.header.specs.Header.{layoutBy, isForm2, countOf, layoutOf, hoursOf}
+use Rattle.header.specs.Header.{layoutBy, isForm2, formBy, countOf, layoutOf, hoursOf}
 use Rattle.header.proofs.HeaderLines.{isInRange}
 use Rattle.header.proofs.Forms.{linesBefore}
 use Rattle.archive.specs.declared.Way.{Way}
@@ -40,7 +40,7 @@ module _ (way : Way) (rest : List ℕ) where
   sheet = firstLines way ++ rest
 
   abbrev pub layout : List Line
-  layout = layoutBy (isTwo way) true
+  layout = layoutBy (formBy (isTwo way)) true
 
   pub form-is : isForm2 sheet ≡ isTwo way
   form-is = form-said way rest
@@ -49,7 +49,7 @@ module _ (way : Way) (rest : List ℕ) where
   hours-are = λ i. hoursBy (count-said way rest i)
 
   pub layout-is : layoutOf sheet ≡ layout
-  layout-is = λ i. layoutBy (form-said way rest i) (isCount (count-said way rest i))
+  layout-is = λ i. layoutBy (formBy (form-said way rest i)) (isCount (count-said way rest i))
 
 -- the line `unit` begins behind them, and they are in range
 pub unit-begins : (way : Way) (rest : List ℕ) → linePlace (layout way rest) USUAL-DAY (linesBefore (isTwo way)) (firstLines way ++ rest) ≡ At (length (firstLines way))

@@ -19,7 +19,7 @@ use Rattle.tariff.proofs.Checks.{then-clear, then-first, then-second, unless-cl
 use Rattle.tariff.proofs.Counts.{hours-few, hours-many}
 use Rattle.tariff.proofs.Tests.{and-both}
 use Rattle.header.specs.Layout.{linePlace, lineInRange, layoutForm, layoutRange}
-use Rattle.header.specs.Header.{layoutBy, isForm2, countOf, layoutOf, hoursOf, headerFault}
+use Rattle.header.specs.Header.{layoutBy, isForm2, formBy, countOf, layoutOf, hoursOf, headerFault}
 use Rattle.header.proofs.Forms.{one-number}
 use Rattle.header.proofs.HeaderLines.{isInRange, refused-first}
 use Rattle.header.proofs.HeaderCounts.{is-two, other-forms-are-usual-days}
@@ -58,12 +58,12 @@ unfolding formIn
 form-for Up = refl
 form-for Down = refl
 
-line-one : (two judged : Bool) (hours : ℕ) (s : List ℕ) → isInRange (layoutBy two judged) hours s 0 ≡ liesIn (pos (formIn two)) (pos (formIn two)) (formSaid s)
+line-one : (two judged : Bool) (hours : ℕ) (s : List ℕ) → isInRange (layoutBy (formBy two) judged) hours s 0 ≡ liesIn (pos (formIn two)) (pos (formIn two)) (formSaid s)
 unfolding formIn lineInRange linePlace
 line-one true judged hours s = refl
 line-one false judged hours s = refl
 
-some-lines : (two judged : Bool) → 0 < length (layoutBy two judged)
+some-lines : (two judged : Bool) → 0 < length (layoutBy (formBy two) judged)
 some-lines true judged = lit< tt
 some-lines false judged = lit< tt
 

@@ -12,7 +12,7 @@ use Rattle.tariff.specs.Reply.{Verdict, clear, fault}
 use Rattle.tariff.specs.Eligible.{excluded}
 use Rattle.text.specs.Decimal.{natural}
 use Rattle.header.specs.Header.{headerFault, unitOf, marksOf}
-use Rattle.ledger.specs.Day.{frontOf}
+use Rattle.ledger.specs.Day.{generatorAnswer, frontOf}
 use Rattle.ledger.proofs.SheetFront.{as-marked}
 use Rattle.spelling.specs.Header.{unitAndMarksText, headerText}
 use Rattle.spelling.proofs.Spelling.{a-header-that-is-read-is-its-text}
@@ -76,7 +76,7 @@ module _ (way : Way) (s : List ℕ) (e : moveFault way s ≡ clear) where
           let out = as-marked (firstLines way ++ rest) read ∙ (λ i. excluded (hours i) (marks i)) ∙ sym (as-marked (firstLines (back way) ++ rest) reads) in
           let body = moved-behind way rest header-read in
           let fault = read ∙ sym reads in
-          λ i. record { fault = fault i; hours = hours i; isExcluded = out i; body = body i }
+          λ i. record { fault = fault i; hours = hours i; isExcluded = out i; body = body i; answer = generatorAnswer }
 
   pub same-unit : unitOf s ≡ unitOf (moved way s)
   unfolding moved

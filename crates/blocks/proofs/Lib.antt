@@ -1,5 +1,4 @@
 -- Laws that the proofs of the crate's functions and of its callers' cite, and that the contract has one reply (Unique).
-pub mod CurveLines
 pub mod Values
 pub mod Blocks
 pub mod Unique

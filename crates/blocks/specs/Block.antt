@@ -10,71 +10,74 @@ use Rattle.tariff.specs.declared.Hour.{Hour}
 use Rattle.tariff.specs.Units.{kw, price}
 use Rattle.tariff.specs.Hour.{blank}
 use Rattle.text.specs.declared.Next.{Next}
-use Rattle.text.specs.declared.Next.the-variants.{At, Wrong}
-use Rattle.keys.specs.Keys.{AHEAD, DA, RT, INTERVAL}
-use Rattle.lines.specs.Line.{valueIn, lineAt, filled}
-use Rattle.lines.specs.Series.{seriesIn, Series, lineCount, brokenLine, seriesAt}
+use Rattle.keys.specs.Keys.{AHEAD, INTERVAL}
+use Rattle.lines.specs.Series.{Series}
+use Rattle.curves.specs.CurveLine.{noCurve}
+use Rattle.curves.specs.Frame as frame
+use Rattle.curves.specs.Frame.{Kind, Framed, framedAt}
+pub use Rattle.curves.specs.Frame.{broken, read}
 use Rattle.records.specs.Records.{aheadOf, intervalOf}
 use Rattle.blocks.specs.declared.BlockRead.{BlockRead}
-use Rattle.blocks.specs.CurveLine.{curveLine, curveSaid}
 
--- ---- its lines
+-- ---- a generator's block: ten fields in line 1, twenty in an interval line
 
-abbrev pub aheadLine : List ℕ → ℕ → Next
-aheadLine = lineAt AHEAD 10
+abbrev pub generator : Kind Interval Hour
+generator =
+    record {
+      ahead = AHEAD;
+      aheadFields = 10;
+      interval = INTERVAL;
+      intervalFields = 20;
+      intervalOf = intervalOf;
+      blank = blank;
+      hourOf = λ v da rt n iv. record { hour = v 0; ahead = aheadOf v; da = da; rt = rt; n = n; iv = iv };
+    }
 
--- an interval line, and what it says
-abbrev pub intervalLine : List ℕ → ℕ → Next
-intervalLine = lineAt INTERVAL 20
-
-abbrev pub intervalSaid : List ℕ → ℕ → Interval
-intervalSaid s at = intervalOf (valueIn INTERVAL s at)
-
--- where the first interval line stands at `at`: interval i; and how many there are, up to 30, from line 4 on
-abbrev pub intervalAt : List ℕ → (at i : ℕ) → Interval
-intervalAt = seriesIn intervalLine intervalSaid blank
-
-abbrev pub intervalLines : List ℕ → (at : ℕ) → Series
-intervalLines s at = seriesAt intervalLine 4 30 s at 0
-
--- ---- the block
-
-pub data Block : Type 0 where
-  broken : ℕ → Block
-  read : Hour → Block
-
--- the record of line 1's values, two curves and n intervals, the first of which stands at `at`
-abbrev pub hourWith : (ℕ → ℤ) → Curve → Curve → List ℕ → (at n : ℕ) → Hour
-hourWith v da rt s at n = record { hour = v 0; ahead = aheadOf v; da = da; rt = rt; n = n; iv = filled n 30 (intervalAt s at) blank }
-
-abbrev pub withSeries : (ℕ → ℤ) → Curve → Curve → List ℕ → ℕ → Series → Block
-withSeries v da rt s at (brokenLine line) = broken line
-withSeries v da rt s at (lineCount n) = read (hourWith v da rt s at n)
-
-abbrev pub afterLine3 : Next → (ℕ → ℤ) → Curve → Curve → List ℕ → Block
-afterLine3 Wrong v da rt s = broken 3
-afterLine3 (At at) v da rt s = withSeries v da rt s at (intervalLines s at)
-
-abbrev pub afterLine2 : Next → (ℕ → ℤ) → Curve → List ℕ → Block
-afterLine2 Wrong v da s = broken 2
-afterLine2 (At at) v da s = afterLine3 (curveLine RT s at) v da (curveSaid RT s at) s
-
-abbrev pub afterLine1 : Next → List ℕ → ℕ → Block
-afterLine1 Wrong s from = broken 1
-afterLine1 (At at) s from = afterLine2 (curveLine DA s at) (valueIn AHEAD s from) (curveSaid DA s at) s
+abbrev pub Block : Type 0
+Block = Framed Hour
 
 -- the block that begins at a place: read up to its first empty line or the end of the text
 unfoldable pub blockAt : List ℕ → ℕ → Block
-blockAt s from = afterLine1 (aheadLine s from) s from
+unfolding framedAt
+blockAt = framedAt generator
 
 -- a block that is lent
 unfoldable pub blockOf : List ℕ → Block
 blockOf s = blockAt s 0
 
--- ---- what the code gives back: the first line that is not as printed, or 0 and the record. No record goes with a broken block
+-- ---- its lines, and what they make, one after the other
 
-abbrev pub noCurve : Curve
-noCurve = record { start = kw (pos 0); n = 0; to = replicate 12 (kw (pos 0)); at = replicate 12 (price (pos 0)) }
+abbrev pub aheadLine : List ℕ → ℕ → Next
+aheadLine = frame.firstLine generator
+
+abbrev pub intervalLine : List ℕ → ℕ → Next
+intervalLine = frame.intervalLine generator
+
+abbrev pub intervalSaid : List ℕ → ℕ → Interval
+intervalSaid = frame.intervalSaid generator
+
+abbrev pub intervalAt : List ℕ → (at i : ℕ) → Interval
+intervalAt = frame.intervalAt generator
+
+abbrev pub intervalLines : List ℕ → (at : ℕ) → Series
+intervalLines = frame.intervalLines generator
+
+abbrev pub hourWith : (ℕ → ℤ) → Curve → Curve → List ℕ → (at n : ℕ) → Hour
+hourWith = frame.hourWith generator
+
+abbrev pub withSeries : (ℕ → ℤ) → Curve → Curve → List ℕ → ℕ → Series → Block
+withSeries = frame.withSeries generator
+
+abbrev pub afterLine3 : Next → (ℕ → ℤ) → Curve → Curve → List ℕ → Block
+afterLine3 = frame.afterLine3 generator
+
+abbrev pub afterLine2 : Next → (ℕ → ℤ) → Curve → List ℕ → Block
+afterLine2 = frame.afterLine2 generator
+
+abbrev pub afterLine1 : Next → List ℕ → ℕ → Block
+afterLine1 = frame.afterLine1 generator
+
+-- ---- what the code gives back: the first line that is not as printed, or 0 and the record. No record goes with a broken block
 
 abbrev pub noAhead : DayAhead
 noAhead =

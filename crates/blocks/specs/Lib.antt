@@ -1,4 +1,3 @@
--- An hour block: its curve lines, its interval lines, and the record that it is read to.
-pub mod CurveLine
+-- An hour block: its lines, and the record that it is read to.
 pub mod Block
 pub mod Told

@@ -2,7 +2,6 @@
 ghost use mathlib.Core.Path.{_≡_};
 ghost use Rattle.blocks.specs.Block.{broken, blockAt, hourReadOf};
 use crate::BlockRead;
-use crate::curves;
 use crate::series;
 use tariff::Curve;
 use tariff::DayAhead;
@@ -55,12 +54,12 @@ pub fn read_block(s: &[u8], at: usize) -> BlockRead
     let Next::At(p1) = lines::line_end(s, fields) else {
         return broken_block(1);
     };
-    let da = curves::curve_at(s, p1, keys::DA);
+    let da = curves::curve_at(s, p1, false);
     let da_next = da.next;
     let Next::At(p2) = da_next else {
         return broken_block(2);
     };
-    let rt = curves::curve_at(s, p2, keys::RT);
+    let rt = curves::curve_at(s, p2, true);
     let rt_next = rt.next;
     let Next::At(p3) = rt_next else {
         return broken_block(3);

@@ -4,7 +4,6 @@ ghost use Rattle.blocks.specs.Block.{blockOf, hourReadOf};
 use tariff::Hour;
 
 mod block;
-mod curves;
 mod reader;
 mod series;
 

@@ -1,11 +1,12 @@
-// Each of the checks 1 to 5, over the whole record.
+// Each of the checks 1 to 5, over the whole record. What reads no more than curves, counts and the hour serves every kind of hour.
 ghost use mathlib.Core.Path.{_≡_};
 ghost use Prim.Native.Nat.{ℕ, _<_, _≤_};
 ghost use lib.IntN.{pos, _+ℤ_};
 ghost use Rattle.exact.specs.Whole.{Within, eqZ};
 ghost use Rattle.tariff.specs.Sheet.{curveKeeps};
-ghost use Rattle.tariff.specs.Reply.{shown, clear, unless};
-ghost use Rattle.tariff.specs.Hour.{interval, hoursAround, form, range, order, curves, secondsSum};
+ghost use Rattle.tariff.specs.Reply.{shown, clear, unless, _then_};
+ghost use Rattle.tariff.specs.Checks.{hoursAround, formIn, orderIn, curvesIn};
+ghost use Rattle.tariff.specs.Hour.{interval, form, range, secondsSum};
 use tariff::Check;
 use tariff::Curve;
 use tariff::Expected;
@@ -15,16 +16,16 @@ use tariff::Kw;
 use tariff::LONGEST_DAY;
 use tariff::Seconds;
 
-pub fn form_fault(h: Hour) -> Found
-    ensures { λ r. ⌜ shown r ≡ form h ⌝ }
+pub fn form_fault(da: Curve, rt: Curve, n: usize) -> Found
+    ensures { λ r. ⌜ shown r ≡ formIn da rt n ⌝ }
 {
-    if 12 < h.da.n {
+    if 12 < da.n {
         return Found::Fault(Check::Form(2));
     }
-    if 12 < h.rt.n {
+    if 12 < rt.n {
         return Found::Fault(Check::Form(3));
     }
-    if 30 < h.n {
+    if 30 < n {
         return Found::Fault(Check::Form(34));
     }
     Found::Nothing
@@ -74,13 +75,13 @@ pub fn same_hour(a: i64, b: i64) -> bool
     a == b
 }
 
-pub fn order_fault(h: Hour, expected: Expected) -> Found
-    ensures { λ r. ⌜ shown r ≡ order h expected ⌝ }
+pub fn order_fault(said: i64, expected: Expected) -> Found
+    ensures { λ r. ⌜ shown r ≡ orderIn said expected ⌝ }
 {
     match expected {
         Expected::Any => Found::Nothing,
         Expected::Says(hour, _) => {
-            if same_hour(h.hour, hour) {
+            if same_hour(said, hour) {
                 Found::Nothing
             } else {
                 Found::Fault(Check::Order)
@@ -118,17 +119,29 @@ pub fn curve_keeps(c: Curve) -> bool
     true
 }
 
-pub fn curve_fault(h: Hour) -> Found
-    requires { ⌜ form h ≡ clear ⌝ }
-    ensures { λ r. ⌜ shown r ≡ curves h ⌝ }
+pub fn curve_fault(da: Curve, rt: Curve) -> Found
+    requires { ⌜ (da .n ≤ 12) × (rt .n ≤ 12) ⌝ }
+    ensures { λ r. ⌜ shown r ≡ curvesIn da rt ⌝ }
 {
-    if !curve_keeps(h.da) {
+    if !curve_keeps(da) {
         return Found::Fault(Check::Curve(2));
     }
-    if !curve_keeps(h.rt) {
+    if !curve_keeps(rt) {
         return Found::Fault(Check::Curve(3));
     }
     Found::Nothing
+}
+
+// Checks 3 and 4, which follow check 2 and read no interval.
+pub fn order_or_curve_fault(said: i64, da: Curve, rt: Curve, expected: Expected) -> Found
+    requires { ⌜ (da .n ≤ 12) × (rt .n ≤ 12) ⌝ }
+    ensures { λ r. ⌜ shown r ≡ (orderIn said expected then curvesIn da rt) ⌝ }
+{
+    let order = order_fault(said, expected);
+    if let Found::Fault(check) = order {
+        return Found::Fault(check);
+    }
+    curve_fault(da, rt)
 }
 
 // At most 30 intervals of at most 900 seconds.

@@ -2,7 +2,7 @@
 -- document 02's requests that are none of the three.
 -- A text is a list of bytes, any bytes. Each demand is proved by citing what proves it; the words are the documents', in specs/ of each crate.
 -- Witness.antt has small texts, and for curve that is added to a day a day of one hour, that meet the conditions, so that none is empty.
-use mathlib.Core.Path.{_≡_, sym, _∙_}
+use mathlib.Core.Path.{_≡_, refl, sym, _∙_}
 use mathlib.Core.Bool.{Bool, true, false}
 use mathlib.Core.List.{List, [], _++_}
 use mathlib.Core.Logic.{_↔_, _⊎_}
@@ -35,7 +35,7 @@ use Rattle.intake.proofs.Squeezes.{split}
 use Rattle.blocks.specs.Block.{blockOf, read}
 use Rattle.sheet.specs.Settle.{replyTo, rowTo}
 use Rattle.sheet.specs.Apart.{CurvesApart}
-use Rattle.sheet.specs.Closed.{Closed}
+use Rattle.curves.specs.Closed.{Closed}
 use Rattle.sheet.specs.Print.{textOf}
 use Rattle.spelling.specs.Spelt.{Bytes, IsText}
 use Rattle.spelling.proofs.Spelling.{a-block-that-is-read-is-its-text}
@@ -50,10 +50,10 @@ use Rattle.sheet.proofs.BlockDemands.{
 }
 use Rattle.header.specs.Layout.{layoutForm}
 use Rattle.header.specs.Header.{isForm2, layoutOf, hoursOf, headerFault, marksOf}
-use Rattle.ledger.specs.Day.{frontOf, dayReply, surplus, dayTotal}
+use Rattle.ledger.specs.Day.{generatorAnswer, frontOf, dayReply, surplus, dayTotal}
 use Rattle.tariff.specs.Total.{total, Pays, paidCents}
 use Rattle.ledger.specs.Demand.{PricedAlike, DaysApart, BothRead}
-use Rattle.ledger.proofs.SheetFront.{as-marked}
+use Rattle.ledger.proofs.SheetFront.{as-marked, sheet-laws}
 use Rattle.ledger.proofs.DayDemands.{
   an-hour-is-refused-for-reach-exactly-when-some-kilowatt-is-unpriced,
   an-hour-is-refused-for-derate-exactly-when-some-reduction-exceeds,
@@ -90,8 +90,8 @@ use Rattle.printed.proofs.import_text.Met as import-is
 use Rattle.archive.proofs.move_sheet.Statement as moving
 use Rattle.archive.proofs.move_sheet.Met as moving-is
 use Rattle.demands.specs.Listing.{listing}
-use Rattle.demands.proofs.Blocks.{paid-as, as-paid, row-of-a-refused}
-use Rattle.demands.proofs.Printed.{lent, kept-hour, kept-day, kept-import, append-day, append-import, same-hour, same-answer, days-printed-alike, curve-added-to-a-day}
+use Rattle.demands.proofs.Blocks.{block-paid-when, row-of-a-refused}
+use Rattle.demands.proofs.Printed.{lent, kept-hour, kept-page, kept-import, append-page, append-import, same-hour, same-answer, days-printed-alike, curve-added-to-a-day}
 use Rattle.demands.proofs.Listing.{listing-printed, short-printed}
 
 -- ==== 1. Every sheet, good or bad, gets an answer and the program stops
@@ -122,14 +122,14 @@ no-answer-is-cut s = (hour-fits s, day-fits s, import-fits s)
 pub what-is-kept-decides :
     (s : List ℕ)
     → (hourText (take PIECE s) ≡ hourText s) × (dayText (keptOf (atFirst PIECES) (squeezed s)) ≡ dayText s) × (importText (keptOf (atFirst PIECES) s) ≡ importText s)
-what-is-kept-decides s = (kept-hour s, kept-day s, kept-import s)
+what-is-kept-decides s = (kept-hour s, kept-page frontOf generatorAnswer sheet-laws s, kept-import s)
 
 -- Once a byte stands behind the last block of the day that a text says, no further byte of it changes one that `day` or `import` prints.
 pub behind-the-last-block-no-byte-matters :
     (s t : List ℕ)
     → (isSome (restAfter (suc (frontOf s .hours)) s) ≡ true → dayText (s ++ t) ≡ dayText s)
     × (isSome (restAfter (suc (hoursIn s)) s) ≡ true → importText (s ++ t) ≡ importText s)
-behind-the-last-block-no-byte-matters s t = (append-day s t, append-import s t)
+behind-the-last-block-no-byte-matters s t = (append-page frontOf generatorAnswer sheet-laws s t, append-import s t)
 
 -- What follows in a text behind the empty line that closes its first block never changes a byte of `hour`'s answer to it.
 pub hour-stops-at-the-empty-line : (s behind : List ℕ) → Closed s → hourText (s ++ behind) ≡ hourText s
@@ -181,8 +181,7 @@ pub an-hour-pays-its-contributions :
     → (replyTo (blockOf s) isExcluded expected room ≡ paid sum cents)
     ↔ ((h : Hour) × (blockOf s ≡ read h) × Passes h isExcluded expected room
     × (sum ≡ sumTo (contribution h isExcluded) (h .n)) × (cents ≡ centsOf (sumTo (contribution h isExcluded) (h .n))))
-an-hour-pays-its-contributions s isExcluded expected room sum cents =
-    (paid-as isExcluded expected room sum cents (blockOf s), as-paid isExcluded expected room sum cents (blockOf s))
+an-hour-pays-its-contributions s isExcluded expected room sum cents = block-paid-when isExcluded expected room sum cents (blockOf s)
 
 -- Then the first entries of the lent row, one per interval, are their contributions, and later ones are as before.
 pub a-paid-row-holds-each-contribution :
@@ -263,7 +262,7 @@ pub refused-for-reach-in-a-day-exactly-when-some-interval-lacks-such-a-price :
     → ((place : ℕ) × (dayReply (frontOf s) k ≡ refused REACH place))
     ↔ (WholeHour h (Says (pos k) (frontOf s .hours)) × UnpricedBeforeDerate h (frontOf s .isExcluded k))
 refused-for-reach-in-a-day-exactly-when-some-interval-lacks-such-a-price s =
-    an-hour-is-refused-for-reach-exactly-when-some-kilowatt-is-unpriced (frontOf s)
+    an-hour-is-refused-for-reach-exactly-when-some-kilowatt-is-unpriced (frontOf s) refl
 
 -- Its place is the first interval with such a kilowatt, from 1.
 pub reach-exactly-when-such-a-kilowatt-has-no-price :
@@ -289,7 +288,7 @@ pub refused-for-derate-in-a-day-exactly-when-some-reduction-exceeds-its-room :
     → ((place : ℕ) × (dayReply (frontOf s) k ≡ refused DERATE place))
     ↔ (WholeHour h (Says (pos k) (frontOf s .hours)) × ExceededBeforeReach h (frontOf s .isExcluded k))
 refused-for-derate-in-a-day-exactly-when-some-reduction-exceeds-its-room s =
-    an-hour-is-refused-for-derate-exactly-when-some-reduction-exceeds (frontOf s)
+    an-hour-is-refused-for-derate-exactly-when-some-reduction-exceeds (frontOf s) refl
 
 -- Its place is the first such interval, from 1.
 pub derate-exactly-when-a-reduction-exceeds-its-room :

@@ -1,4 +1,4 @@
--- The demands on one page, the laws that carry theorems over to the texts that are read and printed, document 01's listing from end to end,
+-- The demands on one page, those for internal controllable lines on another, the laws that carry theorems over to the texts that are read and printed, document 01's listing from end to end,
 -- and small texts that meet the page's conditions.
 pub mod Blocks
 pub mod Printed
@@ -6,4 +6,6 @@ pub mod Opened
 pub mod Listing
 pub mod Taken
 pub mod Demands
+pub mod LineDemands
 pub mod Witness
+pub mod LineWitness

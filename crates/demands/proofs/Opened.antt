@@ -12,9 +12,10 @@ use Rattle.tariff.specs.Sheet.{allTo, aheadInRange, curveInRange, intervalInRan
 use Rattle.tariff.specs.Curve.{Amount, quoteFrom, quote, sumUp, integral}
 use Rattle.tariff.specs.Reply.{Reply, Verdict, firstOf}
 use Rattle.tariff.specs.Derate.{exceedsRoom, reduced}
-use Rattle.tariff.specs.Contributions.{lowerLimit, upperLimit, energy, reserve, regulation, movement, otherThanEnergy}
+use Rattle.tariff.specs.Contributions.{lowerLimit, upperLimit, energyBy, reserve, regulation, movement, otherThanEnergy}
 use Rattle.tariff.specs.Outcome.{firstStop, sumBy, replyBy}
-use Rattle.tariff.specs.Hour.{blockFault, form, range, order, curves, secondsSum, outcome, outcomeAt, reply}
+use Rattle.tariff.specs.Checks.{formIn, rangeIn, orderIn, curvesIn, secondsIn}
+use Rattle.tariff.specs.Hour.{blockFault, outcome, outcomeAt, reply}
 use Rattle.tariff.specs.Eligible.{someTo, excluded}
 use Rattle.marks.specs.Word.{word}
 use Rattle.text.specs.Text.{keyAt}
@@ -23,7 +24,7 @@ use Rattle.lines.specs.Line.{valueAt, fieldAt, afterFields, valueIn, lineAt, cl
 use Rattle.lines.specs.Cut.{emptyIn, behind}
 use Rattle.lines.specs.Pieces.{restAfter, firstPiece, piece}
 use Rattle.lines.specs.Series.{seriesPlace, seriesIn, seriesAt}
-use Rattle.blocks.specs.CurveLine.{curveLine, curveSaid}
+use Rattle.curves.specs.CurveLine.{curveLine, curveSaid}
 use Rattle.blocks.specs.Block.{Block, blockAt, blockOf}
 use Rattle.header.specs.Layout.{digitsAt, rowAt, saidAt, headerLine, linePlace, lineInRange, layoutForm, layoutRange, numberOn, digitOn}
 use Rattle.header.specs.Header.{headerFault, rowWord, marksBy}
@@ -53,11 +54,11 @@ pricing c k = quote c k
 
 -- checks 1 to 5
 unfoldable pub checking : Hour → Verdict
-unfolding form range aheadInRange curveInRange intervalInRange allTo firstOf order curves curveKeeps secondsSum sumTo
+unfolding formIn rangeIn aheadInRange curveInRange intervalInRange allTo firstOf orderIn curvesIn curveKeeps secondsIn sumTo
 checking h = blockFault h Any
 
 unfoldable pub settling : Hour → Reply
 unfolding
-    checking pricing outcome energy integral span sumUp otherThanEnergy regulation reserve movement outcomeAt firstStop sumBy
+    checking pricing outcome energyBy integral span sumUp otherThanEnergy regulation reserve movement outcomeAt firstStop sumBy
     sumTo centsOf replyBy
 settling h = reply h false Any 30

@@ -12,6 +12,7 @@ use Rattle.tariff.specs.declared.Hour.{Hour}
 use Rattle.tariff.specs.declared.Expected.the-variants.{Any, Says}
 use Rattle.tariff.specs.Total.{Pays}
 use Rattle.tariff.specs.Demand.{Lawful, Extends}
+use Rattle.tariff.specs.ControllableDemand.{IclLawful}
 use Rattle.lines.specs.Pieces.{PIECE, restAfter, isSome}
 use Rattle.lines.specs.Squeezed.{squeezed}
 use Rattle.intake.specs.Intake.{PIECES, keptOf, atFirst}
@@ -19,13 +20,16 @@ use Rattle.blocks.specs.Block.{Block, read, blockOf}
 use Rattle.sheet.specs.Settle.{replyTo, rowTo, hourSaid, countSaid}
 use Rattle.sheet.specs.Apart.{CurvesApart}
 use Rattle.sheet.proofs.BlockDemands.{curves-apart-are-alike, first-bytes-decide}
-use Rattle.ledger.specs.Day.{Front, frontOf, dayReply}
+use Rattle.ledger.specs.Day.{BlockAnswer, Front, dayReply}
 use Rattle.ledger.specs.Demand.{SettledAlike, PricedAlike, DaysApart, BothRead}
-use Rattle.ledger.proofs.DayDemands.{no-day-is-longer, only-needed-prices-of-a-day-matter, adding-curve-to-a-day-changes-nothing, a-kept-sheet-is-settled-alike, behind-a-surplus-byte-nothing-settles}
+use Rattle.ledger.specs.IclDemand.{IclPricedAlike, IclDaysApart, IclBothRead}
+use Rattle.ledger.proofs.AnyFront.{FrontLaws, kept-settled, append-settled}
+use Rattle.ledger.proofs.DayDemands.{only-needed-prices-of-a-day-matter, adding-curve-to-a-day-changes-nothing}
+use Rattle.ledger.proofs.IclDayDemands as icl
 use Rattle.imports.specs.Import.{hoursIn}
 use Rattle.imports.proofs.ImportDemands as imports
 use Rattle.answers.specs.Answers.{answerText, importLine}
-use Rattle.printed.specs.Printed.{contributionsOf, hourText, dayPage, dayText, importText}
+use Rattle.printed.specs.Printed.{contributionsOf, hourText, dayPage, importText}
 use Rattle.printed.proofs.Texts.{hour-text, day-page}
 
 -- ---- `hour`
@@ -69,13 +73,25 @@ module _ (f g : Front) (apart : DaysApart f g) where
       → BothRead f g (λ k h j. Lawful j (Says (pos k) (f .hours)) × Extends (h .da) (j .da) × Extends (h .rt) (j .rt)) → dayPage f ≡ dayPage g
   curve-added-to-a-day pays longer = same-day f g (adding-curve-to-a-day-changes-nothing f g apart pays longer)
 
-pub kept-day : (s : List ℕ) → dayText (keptOf (atFirst PIECES) (squeezed s)) ≡ dayText s
-kept-day s =
-    let few = no-day-is-longer s in
-    same-day (frontOf (keptOf (atFirst PIECES) (squeezed s))) (frontOf s) (a-kept-sheet-is-settled-alike s PIECES (omega arith))
+-- what is kept of a text of any kind, and a text with bytes more behind it
+module _ (front : List ℕ → Front) (answer : BlockAnswer) (laws : FrontLaws front answer) where
+  pub kept-page : (s : List ℕ) → dayPage (front (keptOf (atFirst PIECES) (squeezed s))) ≡ dayPage (front s)
+  kept-page s =
+      let few = laws .few s in
+      same-day (front (keptOf (atFirst PIECES) (squeezed s))) (front s) (kept-settled front answer laws s PIECES (omega arith))
 
-pub append-day : (s t : List ℕ) → isSome (restAfter (suc (frontOf s .hours)) s) ≡ true → dayText (s ++ t) ≡ dayText s
-append-day s t more = same-day (frontOf (s ++ t)) (frontOf s) (behind-a-surplus-byte-nothing-settles s t more)
+  pub append-page : (s t : List ℕ) → isSome (restAfter (suc (front s .hours)) s) ≡ true → dayPage (front (s ++ t)) ≡ dayPage (front s)
+  append-page s t more = same-day (front (s ++ t)) (front s) (append-settled front answer laws s t more)
+
+-- ---- `line`
+
+module _ (f g : Front) (apart : IclDaysApart f g) where
+  pub line-days-printed-alike : IclBothRead f g (λ k h j. IclPricedAlike h j (f .isExcluded k) (Says (pos k) (f .hours))) → dayPage f ≡ dayPage g
+  line-days-printed-alike priced = same-day f g (icl.only-needed-prices-of-an-icl-day-matter f g apart priced)
+
+  pub curve-added-to-a-line-day : ((k : ℕ) → k < f .hours → Pays (dayReply f k))
+      → IclBothRead f g (λ k h j. IclLawful j (Says (pos k) (f .hours)) × Extends (h .da) (j .da) × Extends (h .rt) (j .rt)) → dayPage f ≡ dayPage g
+  curve-added-to-a-line-day pays longer = same-day f g (icl.adding-curve-to-an-icl-day-changes-nothing f g apart pays longer)
 
 -- ---- `import`
 

@@ -19,7 +19,8 @@ use Rattle.tariff.specs.Sheet.{isHour, endOf, priceOf}
 use Rattle.tariff.specs.Curve.{known, quote}
 use Rattle.tariff.specs.Reply.{paid, clear}
 use Rattle.tariff.specs.Eligible.{excluded}
-use Rattle.tariff.specs.Hour.{hoursAround, order, reply}
+use Rattle.tariff.specs.Checks.{hoursAround}
+use Rattle.tariff.specs.Hour.{order, reply}
 use Rattle.tariff.specs.Total.{Pays}
 use Rattle.tariff.specs.Demand.{Between, MustPrice, priceIn, Lawful, Extends}
 use Rattle.tariff.proofs.Demands.{paid-exactly-when-nothing-refuses, more-steps-extend}
@@ -30,7 +31,7 @@ use Rattle.blocks.specs.Block.{Block, blockOf, read}
 use Rattle.sheet.specs.Settle.{replyTo}
 use Rattle.sheet.specs.Apart.{InThree, CurvesApart}
 use Rattle.header.specs.Header.{marksOf}
-use Rattle.ledger.specs.Day.{Front, frontOf, dayReply}
+use Rattle.ledger.specs.Day.{generatorAnswer, Front, frontOf, dayReply}
 use Rattle.ledger.specs.Demand.{BlocksApart, same, apart, priced, DaysApart, BothRead}
 use Rattle.ledger.proofs.HourOfDay.{read-reply}
 use Rattle.ledger.proofs.SheetFront.{front-append}
@@ -134,7 +135,7 @@ a-kilowatt-must-be-priced = record {
   needed = record { low = record { le = tt }; high = record { lt = tt } };
 }
 
-only-2 : (k : ℤ) → Between (pos 3) (pos 2) k → quote plainRead k ≡ quote otherRead k
+pub only-2 : (k : ℤ) → Between (pos 3) (pos 2) k → quote plainRead k ≡ quote otherRead k
 unfolding pricing
 only-2 k b =
     let low : pos 2 ≤ℤ k = b .low in
@@ -157,14 +158,14 @@ the-curves-differ e =
     let z : _≡_ {A = ℕ} 2000 7 = cc in
     omega arith
 
-extended : Extends plainRead longerRead
+pub extended : Extends plainRead longerRead
 extended = more-steps-extend plainRead longerRead refl (omega arith) steps
   where
     steps : (j : ℕ) → j < 1 → (endOf plainRead j ≡ endOf longerRead j) × (priceOf plainRead j ≡ priceOf longerRead j)
     steps zero u = (refl, refl)
     steps (suc j) u = absurd (omega arith)
 
-unchanged : (c : Curve) → Extends c c
+pub unchanged : (c : Curve) → Extends c c
 unchanged c = record { keeps = λ k p e. e }
 
 no-block : (h : Hour) → blockOf [] ≡ read h → ⊥
@@ -179,7 +180,7 @@ same-read h g e = cc
 -- a sheet's front is its header
 front-is : (da : List ℕ)
     → frontOf (day da)
-    ≡ record { fault = clear; hours = frontOf header .hours; isExcluded = excluded (frontOf header .hours) (marksOf header); body = block da }
+    ≡ record { fault = clear; hours = frontOf header .hours; isExcluded = excluded (frontOf header .hours) (marksOf header); body = block da; answer = generatorAnswer }
 front-is da = front-append header header-clear header-alone (block da)
 
 eligible : frontOf (day plain) .isExcluded 0 ≡ false
@@ -187,7 +188,7 @@ eligible = ap (λ (f : Front). f .isExcluded 0) (front-is plain) ∙ header-elig
 
 -- a day of one hour, which is eligible
 abbrev oneHour : (da : List ℕ) → Front
-oneHour da = record { fault = clear; hours = 1; isExcluded = λ k. false; body = block da }
+oneHour da = record { fault = clear; hours = 1; isExcluded = λ k. false; body = block da; answer = generatorAnswer }
 
 module _ {da : List ℕ} {c : Curve} (t : Stands da c) where
   lines-apart : CurvesApart (block plain) (block da)
@@ -231,7 +232,7 @@ this-day-is-paid zero u = record {
   sum = pos 10800000;
   cents = pos 3;
   pays =
-      read-reply (oneHour plain) refl 0 (hour plainRead) (ap blockOf (plain-stands .whole) ∙ plain-stands .reads)
+      read-reply (oneHour plain) refl refl 0 (hour plainRead) (ap blockOf (plain-stands .whole) ∙ plain-stands .reads)
       ∙ plain-paid (Says (pos 0) 1) refl (hour-0 1);
 }
 this-day-is-paid (suc k) u = absurd (omega arith)
@@ -269,6 +270,8 @@ curve-is-added-to-this-day =
   where
     days-apart : DaysApart (oneHour plain) (oneHour longer)
     days-apart = record {
+      one-kind = refl;
+      other-kind = refl;
       one-read = refl;
       other-read = refl;
       hours = refl;

@@ -1,3 +1,4 @@
--- Texts that the front page and its witnesses speak of: document 01's listing, and a small block and its day.
+-- Texts that the front pages and their witnesses speak of: document 01's listing, and a small block and its day, of a generator and of a line.
 pub mod Listing
 pub mod Small
+pub mod LineSmall

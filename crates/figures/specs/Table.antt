@@ -17,8 +17,9 @@ use Rattle.tariff.specs.Curve.{quoteFrom, quote, sumUp, integral}
 use Rattle.tariff.specs.Reply.{Reply, paid, refused, firstOf}
 use Rattle.tariff.specs.Eligible.{someTo, excluded}
 use Rattle.tariff.specs.Derate.{redTot, potRed, floorOf, remainder, leftOver, one, share, exceedsRoom, reduced}
-use Rattle.tariff.specs.Contributions.{lowerLimit, upperLimit, energy, reserve, regulation, movement, otherThanEnergy}
-use Rattle.tariff.specs.Hour.{interval, form, range, order, curves, secondsSum, outcome, outcomeAt, reply}
+use Rattle.tariff.specs.Contributions.{lowerLimit, upperLimit, energyBy, reserve, regulation, movement, otherThanEnergy}
+use Rattle.tariff.specs.Checks.{formIn, rangeIn, orderIn, curvesIn, secondsIn}
+use Rattle.tariff.specs.Hour.{interval, outcome, outcomeAt, reply}
 use Rattle.tariff.specs.Outcome.{Outcome, gives, stops, firstStop, replyBy}
 use Rattle.figures.specs.Sample.{worked, withdrawing, moving, derating, overDerated, marks, shortCurve}
 use Rattle.figures.specs.Worked.{worked-gives, worked-paid}
@@ -96,9 +97,9 @@ figures =
 
 pub figures-hold : Holds figures
 unfolding
-    outcome exceedsRoom reduced energy lowerLimit upperLimit minℤ maxℤ integral span sumUp quote quoteFrom otherThanEnergy regulation reserve movement
+    outcome exceedsRoom reduced energyBy lowerLimit upperLimit minℤ maxℤ integral span sumUp quote quoteFrom otherThanEnergy regulation reserve movement
     centsOf upTo share floorOf remainder leftOver excluded someTo
-    replyBy form range aheadInRange curveInRange intervalInRange allTo firstOf order curves curveKeeps secondsSum sumTo firstStop outcomeAt
+    replyBy formIn rangeIn aheadInRange curveInRange intervalInRange allTo firstOf orderIn curvesIn curveKeeps secondsIn sumTo firstStop outcomeAt
 figures-hold =
     ap said (worked-gives .0)
     and ap said (worked-gives .1)

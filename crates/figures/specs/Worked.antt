@@ -9,8 +9,9 @@ use Rattle.tariff.specs.Sheet.{allTo, aheadInRange, curveInRange, intervalInRan
 use Rattle.tariff.specs.Curve.{quoteFrom, quote, sumUp, integral}
 use Rattle.tariff.specs.Reply.{paid, firstOf}
 use Rattle.tariff.specs.Derate.{exceedsRoom, reduced}
-use Rattle.tariff.specs.Contributions.{lowerLimit, upperLimit, energy, reserve, regulation, movement, otherThanEnergy}
-use Rattle.tariff.specs.Hour.{interval, form, range, order, curves, secondsSum, outcome, outcomeAt, reply}
+use Rattle.tariff.specs.Contributions.{lowerLimit, upperLimit, energyBy, reserve, regulation, movement, otherThanEnergy}
+use Rattle.tariff.specs.Checks.{formIn, rangeIn, orderIn, curvesIn, secondsIn}
+use Rattle.tariff.specs.Hour.{interval, outcome, outcomeAt, reply}
 use Rattle.tariff.specs.Outcome.{gives, firstStop, replyBy, sumBy}
 use Rattle.figures.specs.Sample.{worked}
 
@@ -19,9 +20,9 @@ pub worked-gives :
     × (outcome worked (interval worked 1) ≡ gives (pos 72900000000))
     × (outcome worked (interval worked 2) ≡ gives (negℤ (pos 9000000000)))
     × (outcome worked (interval worked 3) ≡ gives (pos 0))
-unfolding outcome exceedsRoom reduced energy lowerLimit upperLimit minℤ maxℤ integral span sumUp quote quoteFrom otherThanEnergy regulation reserve movement
+unfolding outcome exceedsRoom reduced energyBy lowerLimit upperLimit minℤ maxℤ integral span sumUp quote quoteFrom otherThanEnergy regulation reserve movement
 worked-gives = (refl, refl, refl, refl)
 
 pub worked-paid : reply worked false Any 30 ≡ paid (pos 90900000000) (pos 25250)
-unfolding replyBy form range aheadInRange curveInRange intervalInRange allTo firstOf order curves curveKeeps secondsSum firstStop outcomeAt sumBy sumTo centsOf
+unfolding replyBy formIn rangeIn aheadInRange curveInRange intervalInRange allTo firstOf orderIn curvesIn curveKeeps secondsIn firstStop outcomeAt sumBy sumTo centsOf
 worked-paid = rw (worked-gives .0, worked-gives .1, worked-gives .2, worked-gives .3)

@@ -1,1 +1,1 @@
-// Document 01's figures P1 to P10, proved of the definitions in one table. It has no function.
+// Document 01's figures P1 to P10, proved of the definitions in one table; and 25.3.5 worked by hand, in another. It has no function.

@@ -1,32 +1,31 @@
 -- Two texts of one layout and count whose headers' lines stand in both or in neither and say the same: they are judged as the same, and say the
--- same marks.
+-- same marks. A layout is any list of lines.
 use mathlib.Core.Path.{_≡_, refl, sym, _∙_, ap, subst}
-use mathlib.Core.Bool.{Bool, true, false, false≢true}
+use mathlib.Core.Bool.{Bool, true, false≢true}
 use mathlib.Core.List.{List, _++_}
 use Prim.Native.Nat.{ℕ, suc, _-_, _≤_, _<_}
 use native.Mathlib.Omega.{arith}
 use lib.Dec.{eqb}
-use lib.IntN.{ℤ, pos}
+use lib.IntN.{pos}
 use lib.ListN.{length, replicate}
-use Rattle.exact.specs.Choice.{if_then_else_}
 use Rattle.exact.specs.Whole.{eqZ}
 use Rattle.exact.proofs.Sums.{up-same}
-use Rattle.tariff.specs.Sheet.{USUAL-DAY, LONGEST-DAY, isCount, hoursBy, liesIn}
+use Rattle.tariff.specs.Sheet.{LONGEST-DAY, liesIn}
 use Rattle.tariff.specs.Eligible.{marked}
 use Rattle.tariff.specs.Reply.{FORM, RANGE, Verdict, clear, fault, unless, _then_}
-use Rattle.tariff.proofs.Checks.{first-same, then-clear}
+use Rattle.tariff.proofs.Checks.{first-same}
 use Rattle.tariff.proofs.Tests.{all-same}
 use Rattle.text.specs.declared.Next.{Next}
 use Rattle.text.specs.declared.Next.the-variants.{Wrong}
-use Rattle.keys.specs.Keys.{HOURS-LINE, RTC-LINE, CAT-LINE, X1-LINE, X2-LINE, X3-LINE, X4-LINE, X5-LINE, X6-LINE}
+use Rattle.keys.specs.Keys.{RTC-LINE, CAT-LINE, X1-LINE, X2-LINE, X3-LINE, X4-LINE, X5-LINE, X6-LINE}
 use Rattle.lines.specs.Line.{isAt, andThen}
 use Rattle.marks.proofs.Rows.{word-same}
 use Rattle.header.specs.declared.layout.Line.{Line}
 use Rattle.header.specs.declared.layout.Line.the-variants.{Number, Row, Run, Close}
-use Rattle.header.specs.Layout.{lineIn, headerLine, linePlace, numberFrom, digitFrom, lineInRange, layoutForm, layoutRange, layoutFault, lineOf, numberOn, digitOn}
-use Rattle.header.specs.Header.{form2, layoutBy, isForm2, countOf, layoutOf, hoursOf, headerFault, rowWord, marksBy, marksUnder}
+use Rattle.header.specs.Layout.{lineIn, headerLine, linePlace, numberFrom, digitFrom, lineInRange, layoutForm, layoutRange, layoutFault, numberOn, digitOn}
+use Rattle.header.specs.Header.{isForm2, hoursOf, headerFault, rowWord, marksBy, marksUnder}
 use Rattle.header.proofs.HeaderLines.{none-refused, isPlaced}
-use Rattle.header.proofs.Forms.{RowOn, rows-behind, clear-counted}
+use Rattle.header.proofs.Forms.{RowOn, Rows}
 
 -- a line says the same from a place of each text on: a row does where it is as printed, and the length of a run is its own
 abbrev pub SaysSame : (hours : ℕ) → Line → (s t : List ℕ) → (x y : Next) → Type 0
@@ -46,6 +45,45 @@ nothing-said hours Close s t = tt
 pub record Alike (layout : List Line) (hours : ℕ) (s t : List ℕ) : Type 0 where
   pub placed : (j : ℕ) → j ≤ length layout → isAt (linePlace layout hours j s) ≡ isAt (linePlace layout hours j t)
   pub says : (j : ℕ) → j < length layout → SaysSame hours (lineIn layout j) s t (linePlace layout hours j s) (linePlace layout hours j t)
+
+-- ---- one after the other
+says-turned : (hours : ℕ) (line : Line) (s t : List ℕ) (x y : Next) → isAt (andThen x (headerLine hours line s)) ≡ isAt (andThen y (headerLine hours line t))
+    → SaysSame hours line s t x y → SaysSame hours line t s y x
+says-turned hours (Number key least most) s t x y p e = sym e
+says-turned hours (Row key admitted) s t x y p e = λ printed h u. sym (e (p ∙ printed) h u)
+says-turned hours (Run key) s t x y p e = tt
+says-turned hours Close s t x y p e = tt
+
+says-then : (hours : ℕ) (line : Line) (s t u : List ℕ) (x y z : Next) → isAt (andThen x (headerLine hours line s)) ≡ isAt (andThen y (headerLine hours line t))
+    → SaysSame hours line s t x y → SaysSame hours line t u y z → SaysSame hours line s u x z
+says-then hours (Number key least most) s t u x y z p e f = e ∙ f
+says-then hours (Row key admitted) s t u x y z p e f = λ printed h l. e printed h l ∙ f (sym p ∙ printed) h l
+says-then hours (Run key) s t u x y z p e f = tt
+says-then hours Close s t u x y z p e f = tt
+
+says-itself : (hours : ℕ) (line : Line) (s : List ℕ) (x : Next) → SaysSame hours line s s x x
+says-itself hours (Number key least most) s x = refl
+says-itself hours (Row key admitted) s x = λ printed h u. refl
+says-itself hours (Run key) s x = tt
+says-itself hours Close s x = tt
+
+pub alike-turned : {layout : List Line} {hours : ℕ} {s t : List ℕ} → Alike layout hours s t → Alike layout hours t s
+unfolding linePlace
+alike-turned {layout} {hours} {s} {t} o = record {
+  placed = λ j u. sym (o .placed j u);
+  says = λ j u. says-turned hours (lineIn layout j) s t _ _ (o .placed (suc j) u) (o .says j u);
+}
+
+pub alike-then : {layout : List Line} {hours : ℕ} {s t u : List ℕ} → Alike layout hours s t → Alike layout hours t u → Alike layout hours s u
+unfolding linePlace
+alike-then {layout} {hours} {s} {t} {u} o r = record {
+  placed = λ j v. o .placed j v ∙ r .placed j v;
+  says = λ j v. says-then hours (lineIn layout j) s t u _ _ _ (o .placed (suc j) v) (o .says j v) (r .says j v);
+}
+
+pub alike-text : (layout : List Line) (hours : ℕ) {s t : List ℕ} → s ≡ t → Alike layout hours s t
+alike-text layout hours {s} e =
+    subst (λ (t : List ℕ). Alike layout hours s t) e (record { placed = λ j u. refl; says = λ j u. says-itself hours (lineIn layout j) s (linePlace layout hours j s) })
 
 -- ---- the two checks
 pub range-same : (hours : ℕ) (line : Line) (s t : List ℕ) (x y : Next) → isAt (andThen x (headerLine hours line s)) ≡ true → SaysSame hours line s t x y
@@ -122,33 +160,26 @@ module _ (L M : List Line) (hours : ℕ) (s t : List ℕ) where
         x6 = x6 i;
       }
 
--- those of one layout, where the rows are judged
-rtc-on : (two : Bool) → Number RTC-LINE (pos 0) (pos 1) ≡ lineIn (layoutBy two true) (lineOf RTC-LINE (layoutBy two true))
-rtc-on true = refl
-rtc-on false = refl
-
-module _ (two : Bool) {hours : ℕ} {s t : List ℕ} (o : Alike (layoutBy two true) hours s t) (form : layoutForm (layoutBy two true) hours s ≡ clear) where
-  abbrev layout : List Line
-  layout = layoutBy two true
-
+-- those of one layout
+module _ {layout : List Line} {hours : ℕ} {s t : List ℕ} (o : Alike layout hours s t) (form : layoutForm layout hours s ≡ clear) where
   said : (j : ℕ) {line : Line} → line ≡ lineIn layout j → j < length layout → SaysSame hours line s t (linePlace layout hours j s) (linePlace layout hours j t)
   said j is u = subst (λ (line : Line). SaysSame hours line s t (linePlace layout hours j s) (linePlace layout hours j t)) (sym is) (o .says j u)
 
-  digits-said : {key admitted j : ℕ} → RowOn two key admitted j → j < length layout → DigitsSame layout layout hours s t key
+  pub digits-said : {key admitted j : ℕ} → RowOn layout key admitted j → j < length layout → DigitsSame layout layout hours s t key
   unfolding digitOn linePlace
   digits-said {key} {j = j} is u =
       let row = ap (λ (line : Line). isAt (andThen (linePlace layout hours j s) (headerLine hours line s))) (is .0) ∙ form-line layout hours s form j u in
       subst (λ (k : ℕ). (h : ℕ) → h < hours → digitFrom key s (linePlace layout hours k s) h ≡ digitFrom key t (linePlace layout hours k t) h) (is .1)
       (said j (is .0) u row)
 
-  alike-marks : marksBy layout hours s ≡ marksBy layout hours t
+  pub alike-marks : {rtc : ℕ} → Rows layout rtc → marksBy layout hours s ≡ marksBy layout hours t
   unfolding numberOn
-  alike-marks =
-      let r = rows-behind two refl in
+  alike-marks {rtc} r =
       let all = r .all in
       marks-said layout layout hours s t
       (record {
-        rtc = said (lineOf RTC-LINE layout) (rtc-on two) (omega arith);
+        rtc = subst (λ (k : ℕ). numberFrom RTC-LINE s (linePlace layout hours k s) ≡ numberFrom RTC-LINE t (linePlace layout hours k t)) (r .line .1)
+            (said rtc (r .line .0) (omega arith));
         cat = digits-said (r .cat) (omega arith);
         x1 = digits-said (r .x1) (omega arith);
         x2 = digits-said (r .x2) (omega arith);
@@ -158,7 +189,7 @@ module _ (two : Bool) {hours : ℕ} {s t : List ℕ} (o : Alike (layoutBy two tr
         x6 = digits-said (r .x6) (omega arith);
       })
 
--- ---- the header
+-- ---- the header of a day's sheet
 pub record SameHeader (s t : List ℕ) : Type 0 where
   pub two : isForm2 s ≡ isForm2 t
   pub fault : headerFault s ≡ headerFault t
@@ -170,39 +201,3 @@ same-turned o = record { two = sym (o .two); fault = sym (o .fault); hours = sym
 
 pub same-then : {s t u : List ℕ} → SameHeader s t → SameHeader t u → SameHeader s u
 same-then o r = record { two = o .two ∙ r .two; fault = o .fault ∙ r .fault; hours = o .hours ∙ r .hours; marks = o .marks ∙ r .marks }
-
-pub same-text : {s t : List ℕ} → s ≡ t → SameHeader s t
-same-text e = record { two = ap isForm2 e; fault = ap headerFault e; hours = ap hoursOf e; marks = ap (λ (x : List ℕ). marksUnder (headerFault x) x) e }
-
-module _ {s t : List ℕ} (two : isForm2 s ≡ isForm2 t) (count : countOf s ≡ countOf t) (o : Alike (layoutOf s) (hoursOf s) s t) where
-  fault-same : headerFault s ≡ headerFault t
-  fault-same = fault-alike o ∙ (λ i. layoutFault (layoutBy (two i) (isCount (count i))) (hoursBy (count i)) t)
-
-  marks-judged : (judged : Bool) → judged ≡ true → {hours : ℕ} → Alike (layoutBy (isForm2 s) judged) hours s t
-      → layoutForm (layoutBy (isForm2 s) judged) hours s ≡ clear → marksBy (layoutBy (isForm2 s) judged) hours s ≡ marksBy (layoutBy (isForm2 s) judged) hours t
-  marks-judged true j alike form = alike-marks (isForm2 s) alike form
-  marks-judged false j alike form = absurd (false≢true j)
-
-  marks-same : (v : Verdict) → headerFault s ≡ v → marksUnder v s ≡ marksUnder v t
-  marks-same clear e =
-      let checks = then-clear (layoutForm (layoutOf s) (hoursOf s) s) (layoutRange (layoutOf s) (hoursOf s) s) e in
-      marks-judged (isCount (countOf s)) (clear-counted s (checks .1)) o (checks .0)
-      ∙ (λ i. marksBy (layoutBy (two i) (isCount (count i))) (hoursBy (count i)) t)
-  marks-same (fault number place) e = refl
-
-  pub alike-header : SameHeader s t
-  alike-header =
-      record {
-        two = two;
-        fault = fault-same;
-        hours = ap hoursBy count;
-        marks = marks-same (headerFault s) refl ∙ ap (λ (v : Verdict). marksUnder v t) fault-same;
-      }
-
--- the first two lines decide the layout and the count
-pub kind-alike : {s t : List ℕ} → Alike (form2 false) 0 s t → (isForm2 s ≡ isForm2 t) × (countOf s ≡ countOf t)
-unfolding numberOn linePlace
-kind-alike {s} {t} o =
-    let two : isForm2 s ≡ isForm2 t = ap (λ (z : ℤ). eqZ z (pos 2)) (o .says 0 (omega arith)) in
-    let count : numberOn (form2 false) 0 HOURS-LINE s ≡ numberOn (form2 false) 0 HOURS-LINE t = o .says 1 (omega arith) in
-    (two, λ i. if two i then count i else pos USUAL-DAY)

@@ -14,9 +14,11 @@ use Rattle.lines.specs.Cut.{emptyIn}
 use Rattle.lines.specs.Pieces.{firstPiece}
 use Rattle.lines.proofs.Along.{never-at}
 use Rattle.lines.proofs.Cut.{behind-range}
-use Rattle.header.specs.Header.{hoursOf, headerFault, marksOf, nextUnder}
-use Rattle.header.proofs.HeaderBehind.{clear-empty}
-use Rattle.header.proofs.HeaderFirst.{SameHeader, same-first}
+use Rattle.header.specs.declared.layout.Form.{Form}
+use Rattle.header.specs.Header.{faultIn, nextIn, formOf, hoursOf, headerFault, marksOf, nextUnder}
+use Rattle.header.proofs.HeaderBehind.{ends-empty}
+use Rattle.header.proofs.HeaderSame.{AlikeInAll, fault-same, form-same, same-header}
+use Rattle.header.proofs.HeaderFirst.{SameHeader, firsts-alike}
 
 -- an empty line that is found is found whatever follows
 empty-append : (start : Bool) (x body : List ℕ) (i k : ℕ) → emptyIn start x i ≡ At k → emptyIn start (x ++ body) i ≡ At k
@@ -32,19 +34,30 @@ empty-append start (b ∷ x) body i k = go (eqb b 10) start (λ s. empty-append 
     go false begins more e = more false e
 
 -- ---- a header and what follows it
-pub closed-append : (s body : List ℕ) (k : ℕ) → emptyIn true s 0 ≡ At k → SameHeader (s ++ body) s
+closed-alike : (s body : List ℕ) (k : ℕ) → emptyIn true s 0 ≡ At k → AlikeInAll (s ++ body) s
 unfolding firstPiece
-closed-append s body k e =
+closed-alike s body k e =
     let inside = behind-range s 0 k true e .1 in
-    same-first (s ++ body) s (rw (empty-append true s body 0 k e, e) (take-append-le k s body inside))
+    firsts-alike (s ++ body) s (rw (empty-append true s body 0 k e, e) (take-append-le k s body inside))
 
--- without fault
+pub closed-append : (s body : List ℕ) (k : ℕ) → emptyIn true s 0 ≡ At k → SameHeader (s ++ body) s
+closed-append s body k e = same-header (closed-alike s body k e)
+
+-- of a form, and without fault
+module _ (form : Form) (head : List ℕ) (e : faultIn form head ≡ clear) (n : nextIn form (faultIn form head) head ≡ length head) (body : List ℕ) where
+  pub head-alike : AlikeInAll (head ++ body) head
+  head-alike = closed-alike head body (length head) (ends-empty form head e ∙ ap At n)
+
+  pub head-clear : faultIn form (head ++ body) ≡ clear
+  head-clear = fault-same head-alike form ∙ e
+
+  pub head-ends : nextIn form (faultIn form (head ++ body)) (head ++ body) ≡ length head
+  head-ends = ap placeIn (sym (ends-empty form (head ++ body) head-clear) ∙ empty-append true head body 0 (length head) (ends-empty form head e ∙ ap At n))
+
+-- and of a day's sheet
 module _ (head : List ℕ) (e : headerFault head ≡ clear) (n : nextUnder (headerFault head) head ≡ length head) (body : List ℕ) where
-  ends : emptyIn true (head ++ body) 0 ≡ At (length head)
-  ends = empty-append true head body 0 (length head) (clear-empty head e ∙ ap At n)
-
   same : SameHeader (head ++ body) head
-  same = closed-append head body (length head) (clear-empty head e ∙ ap At n)
+  same = same-header (head-alike (formOf head) head e n body)
 
   pub fault-append : headerFault (head ++ body) ≡ clear
   fault-append = same .fault ∙ e
@@ -56,4 +69,6 @@ module _ (head : List ℕ) (e : headerFault head ≡ clear) (n : nextUnder (head
   marks-append = rw (fault-append, e) at (same .marks)
 
   pub next-append : nextUnder (headerFault (head ++ body)) (head ++ body) ≡ length head
-  next-append = ap placeIn (sym (clear-empty (head ++ body) fault-append) ∙ ends)
+  next-append =
+      ap (λ (form : Form). nextIn form (faultIn form (head ++ body)) (head ++ body)) (form-same (head-alike (formOf head) head e n body))
+      ∙ head-ends (formOf head) head e n body

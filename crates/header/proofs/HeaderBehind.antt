@@ -23,10 +23,12 @@ use Rattle.keys.proofs.AllKeys.{table-at}
 use Rattle.lines.proofs.Ended.{opens, key-closed, fields-closed}
 use Rattle.lines.proofs.Cut.{behind-at}
 use Rattle.lines.proofs.Passed.{feed-empty, pass}
+use Rattle.header.specs.declared.layout.Form.{Form}
+use Rattle.header.specs.declared.layout.Form.the-variants.{One, Two, Icl}
 use Rattle.header.specs.declared.layout.Line.{Line}
 use Rattle.header.specs.declared.layout.Line.the-variants.{Number, Row, Run, Close}
 use Rattle.header.specs.Layout.{lineIn, rowAt, saidAt, headerLine, linePlace, layoutForm}
-use Rattle.header.specs.Header.{form1, form2, layoutBy, isForm2, countOf, layoutOf, hoursOf, headerFault, nextUnder}
+use Rattle.header.specs.Header.{form1, form2, iclLines, layoutBy, countBy, layoutIn, hoursIn, faultIn, nextIn, formOf, headerFault, nextUnder}
 use Rattle.header.proofs.HeaderLines.{close-line, startOf}
 use Rattle.header.proofs.HeaderEnds.{form-clear, line-read, read-ends}
 
@@ -78,11 +80,13 @@ closed layout last long few front close =
       short = λ j u. and-right (opensLine (lineIn layout j)) (isShort (lineIn layout j)) (at j u);
     }
 
-pub layout-closed : (two judged : Bool) → Closed (layoutBy two judged)
+pub layout-closed : (form : Form) (judged : Bool) → Closed (layoutBy form judged)
 unfolding allTo
-layout-closed false judged = closed form1 10 refl (omega arith) refl refl
-layout-closed true true = closed (form2 true) 11 refl (omega arith) refl refl
-layout-closed true false = closed (form2 false) 11 refl (omega arith) refl refl
+layout-closed One judged = closed form1 10 refl (omega arith) refl refl
+layout-closed Two true = closed (form2 true) 11 refl (omega arith) refl refl
+layout-closed Two false = closed (form2 false) 11 refl (omega arith) refl refl
+layout-closed Icl true = closed (iclLines true) 3 refl (omega arith) refl refl
+layout-closed Icl false = closed (iclLines false) 3 refl (omega arith) refl refl
 
 -- ---- a header's lines, one by one
 module _ (layout : List Line) (o : Closed layout) (hours : ℕ) (s : List ℕ) (e : layoutForm layout hours s ≡ clear) where
@@ -118,9 +122,15 @@ module _ (layout : List Line) (o : Closed layout) (hours : ℕ) (s : List ℕ) (
   unfolding from linePlace
   first-empty = rw (o .long) (lines-passed (o .last) (omega arith) ∙ feed-empty s _ _ close-read)
 
-pub clear-empty : (s : List ℕ) → headerFault s ≡ clear → emptyIn true s 0 ≡ At (nextUnder (headerFault s) s)
-clear-empty s e =
-    rw e (first-empty (layoutOf s) (layout-closed (isForm2 s) (isCount (countOf s))) (hoursOf s) s (form-clear (layoutOf s) (hoursOf s) s e))
+-- ---- a header of a form
+module _ (form : Form) (s : List ℕ) (e : faultIn form s ≡ clear) where
+  pub ends-empty : emptyIn true s 0 ≡ At (nextIn form (faultIn form s) s)
+  ends-empty =
+      rw e (first-empty (layoutIn form s) (layout-closed form (isCount (countBy form s))) (hoursIn form s) s (form-clear (layoutIn form s) (hoursIn form s) s e))
 
+  pub what-follows : drop (nextIn form (faultIn form s) s) s ≡ behind s
+  what-follows = behind-at s 0 _ ends-empty
+
+-- and a day's sheet's
 pub clear-behind : (s : List ℕ) → headerFault s ≡ clear → drop (nextUnder (headerFault s) s) s ≡ behind s
-clear-behind s e = behind-at s 0 _ (clear-empty s e)
+clear-behind s = what-follows (formOf s) s

@@ -1,11 +1,11 @@
 -- Where a header's lines end: each at the first line feed behind its place. So each line of a header without fault has its place and its end.
 use mathlib.Core.Path.{_≡_, refl, sym, _∙_, ap}
 use mathlib.Core.Bool.{true}
-use mathlib.Core.List.{List}
+use mathlib.Core.List.{List, []}
 use Prim.Native.Nat.{ℕ, zero, suc, _+_, _-_, _≤_, _<_}
 use native.Mathlib.Nat.{add-zero}
 use native.Mathlib.Omega.{arith}
-use lib.ListN.{length, List·getD-eq-default}
+use lib.ListN.{length, drop, length-drop, List·getD-eq-default}
 use Rattle.tariff.specs.Reply.{Verdict, clear, fault}
 use Rattle.tariff.proofs.Checks.{then-clear}
 use Rattle.text.specs.Text.{byteAt}
@@ -14,9 +14,10 @@ use Rattle.text.specs.declared.Next.the-variants.{At, Wrong}
 use Rattle.lines.specs.Line.{placeIn, andThen, lineFeed}
 use Rattle.lines.proofs.Along.{closing, Along, Moved, both, neither, never-at, went, stretch}
 use Rattle.lines.proofs.Ended.{feed-ends, feed-inside}
+use Rattle.header.specs.declared.layout.Form.{Form}
 use Rattle.header.specs.declared.layout.Line.{Line}
 use Rattle.header.specs.Layout.{lineIn, saidAt, headerLine, linePlace, layoutForm, layoutRange, layoutFault}
-use Rattle.header.specs.Header.{layoutOf, hoursOf, headerFault, nextUnder}
+use Rattle.header.specs.Header.{layoutIn, hoursIn, faultIn, nextIn, formOf, layoutOf, hoursOf, headerFault, nextUnder}
 use Rattle.header.proofs.HeaderLines.{is-at, startOf}
 use Rattle.header.proofs.HeaderAlike.{form-line}
 use Rattle.header.proofs.HeaderPlaced.{widthOf, said-placed, line-placed}
@@ -81,8 +82,12 @@ module _ (layout : List Line) (hours : ℕ) (s : List ℕ) (e : layoutForm layou
 pub form-clear : (layout : List Line) (hours : ℕ) (s : List ℕ) → layoutFault layout hours s ≡ clear → layoutForm layout hours s ≡ clear
 form-clear layout hours s e = then-clear (layoutForm layout hours s) (layoutRange layout hours s) e .0
 
+pub next-clear : (form : Form) (s : List ℕ) → faultIn form s ≡ clear
+    → nextIn form (faultIn form s) s ≡ startOf (layoutIn form s) (hoursIn form s) s (length (layoutIn form s))
+next-clear form s e = ap (λ (v : Verdict). nextIn form v s) e
+
 pub clear-next : (s : List ℕ) → headerFault s ≡ clear → nextUnder (headerFault s) s ≡ startOf (layoutOf s) (hoursOf s) s (length (layoutOf s))
-clear-next s e = ap (λ (v : Verdict). nextUnder v s) e
+clear-next s = next-clear (formOf s) s
 
 -- ---- the place behind a line lies in the text, since the line ends in a line feed
 places-inside : (layout : List Line) (hours : ℕ) (s : List ℕ) (j : ℕ) → startOf layout hours s j ≤ length s
@@ -94,6 +99,17 @@ places-inside layout hours s (suc j) = go (linePlace layout hours j s)
     go (At i) = feed-inside s (saidAt hours (lineIn layout j) s i)
     go Wrong = omega arith
 
+pub inside : (form : Form) (v : Verdict) (s : List ℕ) → nextIn form v s ≤ length s
+inside form clear s = places-inside (layoutIn form s) (hoursIn form s) s (length (layoutIn form s))
+inside form (fault number place) s = omega arith
+
 pub next-inside : (v : Verdict) (s : List ℕ) → nextUnder v s ≤ length s
-next-inside clear s = places-inside (layoutOf s) (hoursOf s) s (length (layoutOf s))
-next-inside (fault number place) s = omega arith
+next-inside v s = inside (formOf s) v s
+
+-- where nothing stands behind a header it ends with the text
+pub ends-text : (form : Form) (v : Verdict) (s : List ℕ) → drop (nextIn form v s) s ≡ [] → nextIn form v s ≡ length s
+ends-text form v s alone =
+    let within = inside form v s in
+    let none : length (drop (nextIn form v s) s) ≡ 0 = ap length alone in
+    let left = length-drop (nextIn form v s) s in
+    omega arith

@@ -16,11 +16,11 @@ use Rattle.lines.proofs.Pieces.{Shares, whole, empty, lines, piece-shares}
 use Rattle.header.specs.declared.layout.Line.{Line}
 use Rattle.header.specs.declared.layout.Line.the-variants.{Number, Row, Run, Close}
 use Rattle.header.specs.Layout.{lineIn, headerLine}
-use Rattle.header.proofs.HeaderAlike.{SaysSame, Alike, same-turned, same-then, same-text}
+use Rattle.header.proofs.HeaderAlike.{SaysSame, Alike}
 use Rattle.header.proofs.HeaderPlaced.{widthOf, says-placed}
 use Rattle.header.proofs.HeaderEnds.{line-along}
 use Rattle.header.proofs.HeaderBehind.{opensLine, key-opens, line-closed, Closed}
-use Rattle.header.proofs.HeaderSame.{Both, found, missed, reads-alike, same-header}
+use Rattle.header.proofs.HeaderSame.{Both, found, missed, reads-alike, AlikeInAll, all-turned, all-then, all-text, same-header}
 pub use Rattle.header.proofs.HeaderAlike.{SameHeader}
 
 -- ---- texts with the same bytes up to a line's end and the line feed behind it
@@ -86,14 +86,17 @@ empty-alike layout o hours s t r =
     })
 
 -- ---- a text and its first piece
-pub first-header : (s : List ℕ) → SameHeader s (firstPiece s)
-first-header s = go (piece-shares s)
+first-alike : (s : List ℕ) → AlikeInAll s (firstPiece s)
+first-alike s = go (piece-shares s)
   where
-    go : {t : List ℕ} → Shares s t → SameHeader s t
-    go (whole e) = same-text e
-    go {t} (empty f g) = same-header (λ layout hours o few. empty-alike layout o hours s t (f, g))
-    go {t} (lines m line next) = same-header (λ layout hours o few. lines-alike layout o hours s t m line next)
+    go : {t : List ℕ} → Shares s t → AlikeInAll s t
+    go (whole e) = all-text e
+    go {t} (empty f g) = λ layout hours o few. empty-alike layout o hours s t (f, g)
+    go {t} (lines m line next) = λ layout hours o few. lines-alike layout o hours s t m line next
 
 -- so two texts with one first piece have one header
+pub firsts-alike : (s t : List ℕ) → firstPiece s ≡ firstPiece t → AlikeInAll s t
+firsts-alike s t e = all-then (first-alike s) (all-then (all-text e) (all-turned (first-alike t)))
+
 pub same-first : (s t : List ℕ) → firstPiece s ≡ firstPiece t → SameHeader s t
-same-first s t e = same-then (first-header s) (same-then (same-text e) (same-turned (first-header t)))
+same-first s t e = same-header (firsts-alike s t e)

@@ -3,12 +3,13 @@ use mathlib.Core.Path.{_≡_, refl, sym, _∙_, ap}
 use mathlib.Core.Bool.{Bool, true, false, _&&_, false≢true}
 use mathlib.Core.List.{List, [], _∷_}
 use Prim.Native.Nat.{ℕ, zero, suc, _+_, _-_, _≤_, _<_}
+use native.Mathlib.Decide.{decLe}
 use native.Mathlib.Numerals.{add-one}
 use native.Mathlib.Nat.{add-zero, add-suc}
 use native.Mathlib.Omega.{arith}
 use borrow.Author.Tests.{ltb-true, eq-eqb, ne-eqb}
 use lib.IntN.{ℤ}
-use lib.ListN.{getD, set, replicate, length}
+use lib.ListN.{getD, set, replicate, length, List·getD-eq-default}
 use Rattle.exact.specs.Whole.{upTo}
 use Rattle.exact.proofs.Tests.{and-left, and-right}
 use Rattle.tariff.specs.Reply.{FORM, RANGE, Verdict, clear, fault, unless, firstOf}
@@ -149,6 +150,14 @@ module _ (layout : List Line) (hours : ℕ) (s : List ℕ) where
           is-at (linePlace layout hours k s) (has-place k (omega arith))
           ∙ ap At (filled-at startOf 0 (j + 1) room k (omega arith) ∙ ap (λ (l : List ℕ). getD l k 0) (sym (o .places)))
 
+-- ---- past the closing line, which is the last, there is none but it
+pub close-past : (layout : List Line) (last j : ℕ) → length layout ≡ suc last → lineIn layout last ≡ Close → last ≤ j → Close ≡ lineIn layout j
+close-past layout last j long close u = go (decLe (length layout) j)
+  where
+    go : Dec (length layout ≤ j) → Close ≡ lineIn layout j
+    go (yes v) = sym (List·getD-eq-default layout Close v)
+    go (no v) = let e : last ≡ j = omega arith in sym close ∙ ap (lineIn layout) e
+
 -- ---- each line's key is one of the table's
 abbrev pub areKeyed : List Line → Bool
 areKeyed [] = true
@@ -178,9 +187,6 @@ module _ (layout : List Line) (hours : ℕ) (s : List ℕ) (broken : ℕ) (form 
   module _ (whole : broken ≡ 0) (odd : ℕ) (range : refusedAt RANGE odd ≡ layoutRange layout hours s) where
     pub range-refuses : (odd ≡ 0 → ⊥) → layoutFault layout hours s ≡ fault RANGE odd
     range-refuses u = rw (← form, eq-eqb broken 0 whole, ← range, ne-eqb odd 0 u)
-
-    pub range-clear : odd ≡ 0 → layoutRange layout hours s ≡ clear
-    range-clear u = rw (← range, eq-eqb odd 0 u)
 
     pub none-refuses : odd ≡ 0 → layoutFault layout hours s ≡ clear
     none-refuses u = rw (← form, eq-eqb broken 0 whole, ← range, eq-eqb odd 0 u)

@@ -1,23 +1,31 @@
 -- Two texts whose headers are read side by side, line by line: where both have each line or neither has it, and both say the same, they have the
--- same header.
-use mathlib.Core.Path.{_≡_, refl, sym, subst}
-use mathlib.Core.Bool.{true, false}
+-- same header, of any form.
+use mathlib.Core.Path.{_≡_, refl, sym, _∙_, ap, subst}
+use mathlib.Core.Bool.{Bool, true, false}
 use mathlib.Core.List.{List}
 use Prim.Native.Nat.{ℕ, zero, suc, _≤_, _<_}
 use native.Mathlib.Decide.{decLe, decLt}
 use native.Mathlib.Omega.{arith}
+use lib.IntN.{ℤ, pos}
 use lib.ListN.{length}
-use Rattle.tariff.specs.Sheet.{LONGEST-DAY, isCount}
+use Rattle.exact.specs.Whole.{eqZ}
+use Rattle.tariff.specs.Reply.{Verdict, clear, fault}
+use Rattle.tariff.specs.Sheet.{LONGEST-DAY, isCount, hoursBy}
 use Rattle.tariff.proofs.Counts.{hours-few}
 use Rattle.text.specs.declared.Next.{Next}
 use Rattle.text.specs.declared.Next.the-variants.{At, Wrong}
+use Rattle.keys.specs.Keys.{RTC-LINE}
 use Rattle.lines.specs.Line.{isAt, andThen, lineFeed}
+use Rattle.header.specs.declared.layout.Form.{Form}
+use Rattle.header.specs.declared.layout.Form.the-variants.{One, Two, Icl}
 use Rattle.header.specs.declared.layout.Line.{Line}
 use Rattle.header.specs.declared.layout.Line.the-variants.{Close}
-use Rattle.header.specs.Layout.{lineIn, headerLine, linePlace}
-use Rattle.header.specs.Header.{form2, isForm2, countOf, layoutOf, hoursOf}
+use Rattle.header.specs.Layout.{lineIn, headerLine, linePlace, layoutFault, lineOf, numberOn, digitOn}
+use Rattle.header.specs.Header.{layoutBy, countBy, layoutIn, hoursIn, faultIn, isForm2, formBy, formOf, headerFault, marksBy, marksUnder}
 use Rattle.header.proofs.HeaderLines.{close-line}
-use Rattle.header.proofs.HeaderAlike.{SaysSame, nothing-said, Alike, SameHeader, alike-header, kind-alike}
+use Rattle.header.proofs.Forms.{RowOn, Rows, rows-behind, clear-counted}
+use Rattle.header.proofs.HeaderAlike.{SaysSame, nothing-said, Alike, alike-turned, alike-then, alike-text, fault-alike, digits-said, alike-marks, SameHeader}
+use Rattle.header.proofs.HeaderEnds.{form-clear}
 use Rattle.header.proofs.HeaderBehind.{Closed, layout-closed}
 
 -- both have a place, and R holds of the two, or neither has one
@@ -80,8 +88,81 @@ module _ (layout : List Line) (o : Closed layout) (hours : ℕ) (s t : List ℕ)
     pub reads-alike : Alike layout hours s t
     reads-alike = record { placed = placed; says = said }
 
--- ---- texts that are alike in each layout have the same header
-pub same-header : {s t : List ℕ} → ((layout : List Line) (hours : ℕ) → Closed layout → hours ≤ LONGEST-DAY → Alike layout hours s t) → SameHeader s t
-same-header {s} {t} alike =
-    let kind = kind-alike (alike (form2 false) 0 (layout-closed true false) (omega arith)) in
-    alike-header (kind .0) (kind .1) (alike (layoutOf s) (hoursOf s) (layout-closed (isForm2 s) (isCount (countOf s))) (hours-few (countOf s)))
+-- ---- texts that are read alike in each layout
+abbrev pub AlikeInAll : (s t : List ℕ) → Type 0
+AlikeInAll s t = (layout : List Line) (hours : ℕ) → Closed layout → hours ≤ LONGEST-DAY → Alike layout hours s t
+
+pub all-turned : {s t : List ℕ} → AlikeInAll s t → AlikeInAll t s
+all-turned alike = λ layout hours o day. alike-turned (alike layout hours o day)
+
+pub all-then : {s t u : List ℕ} → AlikeInAll s t → AlikeInAll t u → AlikeInAll s u
+all-then one other = λ layout hours o day. alike-then (one layout hours o day) (other layout hours o day)
+
+pub all-text : {s t : List ℕ} → s ≡ t → AlikeInAll s t
+all-text e = λ layout hours o day. alike-text layout hours e
+
+-- ---- so each form's header is judged alike, and says the same
+module _ {s t : List ℕ} (alike : AlikeInAll s t) (form : Form) where
+  first-lines : Alike (layoutBy form false) 0 s t
+  first-lines = alike (layoutBy form false) 0 (layout-closed form false) (omega arith)
+
+  pub count-same : countBy form s ≡ countBy form t
+  unfolding numberOn linePlace
+  count-same = go form first-lines
+    where
+      go : (f : Form) → Alike (layoutBy f false) 0 s t → countBy f s ≡ countBy f t
+      go One o = refl
+      go Two o = o .says 1 (omega arith)
+      go Icl o = o .says 1 (omega arith)
+
+  pub hours-same : hoursIn form s ≡ hoursIn form t
+  hours-same = ap hoursBy count-same
+
+  pub lines-same : Alike (layoutIn form s) (hoursIn form s) s t
+  lines-same = alike (layoutIn form s) (hoursIn form s) (layout-closed form (isCount (countBy form s))) (hours-few (countBy form s))
+
+  pub fault-same : faultIn form s ≡ faultIn form t
+  fault-same = fault-alike lines-same ∙ (λ i. layoutFault (layoutBy form (isCount (count-same i))) (hoursBy (count-same i)) t)
+
+  -- the digits of a row, where it is judged
+  pub digits-same : faultIn form s ≡ clear → {key admitted j : ℕ} → RowOn (layoutBy form true) key admitted j → j < length (layoutBy form true)
+      → (h : ℕ) → h < hoursIn form s → digitOn (layoutIn form s) (hoursIn form s) key s h ≡ digitOn (layoutIn form t) (hoursIn form t) key t h
+  digits-same e {key} {admitted} {j} row u h l =
+      let judged = sym (clear-counted form s e) in
+      digits-said lines-same (form-clear (layoutIn form s) (hoursIn form s) s e)
+      (subst (λ (b : Bool). RowOn (layoutBy form b) key admitted j) judged row)
+      (subst (λ (b : Bool). j < length (layoutBy form b)) judged u)
+      h l
+      ∙ (λ i. digitOn (layoutBy form (isCount (count-same i))) (hoursBy (count-same i)) key t h)
+
+-- ---- the header of a day's sheet
+module _ {s t : List ℕ} (alike : AlikeInAll s t) where
+  -- the first line decides the form
+  pub two-same : isForm2 s ≡ isForm2 t
+  unfolding linePlace
+  two-same = ap (λ (z : ℤ). eqZ z (pos 2)) (first-lines alike Two .says 0 (omega arith))
+
+  pub form-same : formOf s ≡ formOf t
+  form-same = ap formBy two-same
+
+  marks-same : (two : Bool) (e : faultIn (formBy two) s ≡ clear)
+      → marksBy (layoutIn (formBy two) s) (hoursIn (formBy two) s) s ≡ marksBy (layoutIn (formBy two) t) (hoursIn (formBy two) t) t
+  marks-same two e =
+      let form = formBy two in
+      let rows = subst (λ (b : Bool). Rows (layoutBy form b) (lineOf RTC-LINE (layoutBy form true))) (sym (clear-counted form s e)) (rows-behind two refl) in
+      alike-marks (lines-same alike form) (form-clear (layoutIn form s) (hoursIn form s) s e) rows
+      ∙ (λ i. marksBy (layoutBy form (isCount (count-same alike form i))) (hoursBy (count-same alike form i)) t)
+
+  marks-under : (v : Verdict) → headerFault s ≡ v → marksUnder v s ≡ marksUnder v t
+  marks-under clear e = marks-same (isForm2 s) e ∙ (λ i. marksBy (layoutIn (form-same i) t) (hoursIn (form-same i) t) t)
+  marks-under (fault number place) e = refl
+
+  pub same-header : SameHeader s t
+  same-header =
+      let one = fault-same alike (formOf s) ∙ (λ i. faultIn (form-same i) t) in
+      record {
+        two = two-same;
+        fault = one;
+        hours = hours-same alike (formOf s) ∙ (λ i. hoursIn (form-same i) t);
+        marks = marks-under (headerFault s) refl ∙ ap (λ (v : Verdict). marksUnder v t) one;
+      }

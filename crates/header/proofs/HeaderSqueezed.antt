@@ -27,11 +27,11 @@ use Rattle.lines.proofs.Squeezed.{isDigitByte, squeezed-stands, squeezed-goes, 
 use Rattle.header.specs.declared.layout.Line.{Line}
 use Rattle.header.specs.declared.layout.Line.the-variants.{Number, Row, Run, Close}
 use Rattle.header.specs.Layout.{lineIn, runOf, behindRun, saidAt, headerLine}
-use Rattle.header.proofs.HeaderAlike.{SaysSame, Alike, SameHeader, same-turned}
+use Rattle.header.proofs.HeaderAlike.{SaysSame, SameHeader}
 use Rattle.header.proofs.HeaderPlaced.{widthOf, run-placed, line-placed, says-placed}
 use Rattle.header.proofs.HeaderEnds.{line-ends}
-use Rattle.header.proofs.HeaderBehind.{opensLine, isShort, line-closed, Closed}
-use Rattle.header.proofs.HeaderSame.{Both, found, missed, reads-alike, same-header}
+use Rattle.header.proofs.HeaderBehind.{opensLine, isShort, line-closed}
+use Rattle.header.proofs.HeaderSame.{Both, found, missed, reads-alike, AlikeInAll, all-turned, same-header}
 
 -- ---- a run that is squeezed: what follows it is the same, and it is short
 run-kept : (run : ℕ) (u : List ℕ) → drop (runOf (squeezedFrom false run u)) (squeezedFrom false run u) ≡ squeezedFrom false 0 (drop (runOf u) u)
@@ -258,8 +258,8 @@ module _ (s got : List ℕ) (N : ℕ) (wide : 12 * 48 ≤ N) (agree : (i : ℕ) 
         go (both k l) = refl
         go neither = refl
 
-  pub squeezed-alike : (layout : List Line) → Closed layout → (hours : ℕ) → hours ≤ LONGEST-DAY → Alike layout hours s got
-  squeezed-alike layout o hours day =
+  pub squeezed-alike : AlikeInAll s got
+  squeezed-alike layout hours o day =
       let few = o .few in
       reads-alike layout o hours s got Begins
       (record {
@@ -270,5 +270,8 @@ module _ (s got : List ℕ) (N : ℕ) (wide : 12 * 48 ≤ N) (agree : (i : ℕ) 
       })
 
 -- ---- so a squeezed text is judged alike
+pub itself-squeezed : (s : List ℕ) → AlikeInAll (squeezed s) s
+itself-squeezed s = all-turned (squeezed-alike s (squeezed s) (12 * 48) (omega arith) (λ i h. refl))
+
 pub squeezed-header : (s : List ℕ) → SameHeader (squeezed s) s
-squeezed-header s = same-turned (same-header (λ layout hours o day. squeezed-alike s (squeezed s) (12 * 48) (omega arith) (λ i h. refl) layout o hours day))
+squeezed-header s = same-header (itself-squeezed s)

@@ -1,5 +1,5 @@
 -- A header that is not refused stands as it is in the squeezed text, and so does what follows it: none of its lines has a long run of digits.
-use mathlib.Core.Path.{_≡_, refl, sym, _∙_, ap}
+use mathlib.Core.Path.{_≡_, refl, sym, _∙_, ap, subst}
 use mathlib.Core.Bool.{Bool, true, false, false≢true}
 use mathlib.Core.List.{List, _++_, append-assoc}
 use Prim.Native.Nat.{ℕ, zero, suc, _+_, _≤_, _<_}
@@ -9,7 +9,7 @@ use borrow.Author.Tests.{ltb-true, eq-eqb}
 use lib.Dec.{ltb, lit<}
 use lib.ListN.{length, take, drop, take-append-drop}
 use lib.Seq.{getD-drop, drop-drop, drop-cons, take-add}
-use Rattle.tariff.specs.Sheet.{LONGEST-DAY, isCount, allTo}
+use Rattle.tariff.specs.Sheet.{LONGEST-DAY, allTo}
 use Rattle.tariff.specs.Reply.{clear}
 use Rattle.tariff.proofs.Counts.{hours-few}
 use Rattle.tariff.proofs.Tests.{all-at}
@@ -22,15 +22,17 @@ use Rattle.lines.specs.Squeezed.{RUN, squeezedFrom, squeezed}
 use Rattle.lines.proofs.Along.{closing, Placed, both, neither, never-at, Stretch}
 use Rattle.lines.proofs.Ended.{feed-ends}
 use Rattle.lines.proofs.Squeezed.{isDigitByte, squeezed-end, first-stand, anew}
+use Rattle.header.specs.declared.layout.Form.{Form}
+use Rattle.header.specs.declared.layout.Form.the-variants.{One, Two, Icl}
 use Rattle.header.specs.declared.layout.Line.{Line}
 use Rattle.header.specs.declared.layout.Line.the-variants.{Number, Row, Run, Close}
 use Rattle.header.specs.Layout.{lineIn, headerLine, linePlace, layoutForm}
-use Rattle.header.specs.Header.{layoutBy, isForm2, countOf, layoutOf, hoursOf, headerFault}
+use Rattle.header.specs.Header.{layoutBy, countBy, layoutIn, hoursIn, faultIn, formOf, headerFault}
 use Rattle.header.proofs.HeaderLines.{close-line, startOf}
+use Rattle.header.proofs.Forms.{clear-counted}
 use Rattle.header.proofs.HeaderPlaced.{widthOf, line-placed}
 use Rattle.header.proofs.HeaderEnds.{line-ends, form-clear, line-read}
 use Rattle.header.proofs.HeaderBehind.{opensLine, line-closed, Closed, layout-closed}
-use Rattle.header.proofs.HeaderCounts.{a-header-that-is-read-has-a-count}
 
 -- a line that ends within as many bytes as a run may have: a number, and a row of the longest day
 abbrev isBounded : Line → Bool
@@ -114,19 +116,20 @@ module _ (layout : List Line) (o : Closed layout) (fits : (j : ℕ) → j < o .l
       up-to (o .last) (omega arith) ∙ ap (λ (l : List ℕ). take p s ++ l) rest-stands ∙ take-append-drop p s
 
 -- ---- the header: its rows are judged, since its count is a day's
-lines-bounded : (two : Bool) → allTo (λ j. isBounded (lineIn (layoutBy two true) j)) 12 ≡ true
+lines-bounded : (form : Form) → allTo (λ j. isBounded (lineIn (layoutBy form true) j)) 12 ≡ true
 unfolding allTo
-lines-bounded true = refl
-lines-bounded false = refl
+lines-bounded One = refl
+lines-bounded Two = refl
+lines-bounded Icl = refl
 
-judged-stands : (two judged : Bool) (hours : ℕ) (s : List ℕ) → judged ≡ true → hours ≤ LONGEST-DAY → layoutForm (layoutBy two judged) hours s ≡ clear → squeezed s ≡ s
-judged-stands two true hours s e day form =
-    let o = layout-closed two true in
+pub stands-itself : (form : Form) (s : List ℕ) → faultIn form s ≡ clear → squeezed s ≡ s
+stands-itself form s e =
+    let hours = hoursIn form s in
+    let o = layout-closed form true in
     let few = o .few in
-    all-stands (layoutBy two true) o (λ j u. all-at (λ j. isBounded (lineIn (layoutBy two true) j)) 12 j (lines-bounded two) (omega arith)) hours day s form
-judged-stands two false hours s e day form = absurd (false≢true e)
+    all-stands (layoutBy form true) o (λ j u. all-at (λ j. isBounded (lineIn (layoutBy form true) j)) 12 j (lines-bounded form) (omega arith)) hours
+    (hours-few (countBy form s)) s
+    (subst (λ (b : Bool). layoutForm (layoutBy form b) hours s ≡ clear) (clear-counted form s e) (form-clear (layoutIn form s) hours s e))
 
 pub header-stands : (s : List ℕ) → headerFault s ≡ clear → squeezed s ≡ s
-header-stands s e =
-    judged-stands (isForm2 s) (isCount (countOf s)) (hoursOf s) s (a-header-that-is-read-has-a-count s e) (hours-few (countOf s))
-    (form-clear (layoutOf s) (hoursOf s) s e)
+header-stands s = stands-itself (formOf s) s

@@ -23,8 +23,7 @@ use Rattle.marks.specs.Word.{word}
 use Rattle.header.specs.declared.layout.Line.{Line}
 use Rattle.header.specs.declared.layout.Line.the-variants.{Number, Row}
 use Rattle.header.specs.Layout.{digitsAt, rowAt, saidAt, headerLine, linePlace, numberFrom, digitIn, digitFrom, lineInRange, lineOf, numberOn, digitOn}
-use Rattle.header.specs.Header.{rowWord}
-use Rattle.header.specs.Places.{Placed}
+use Rattle.header.specs.Places.{RowStands, Placed}
 use Rattle.header.proofs.HeaderLines.{is-at, is-at-first, is-at-then}
 use Rattle.header.proofs.Digits.{isDigit}
 
@@ -39,18 +38,19 @@ digits-place hours s p =
 feed-inside : (s : List ℕ) (i : ℕ) → isAt (lineFeed s i) ≡ true → i < length s
 feed-inside s i e = byte-inside s i 10 (feed-ends s i _ (is-at (lineFeed s i) e) .0) (lit< tt)
 
--- a row that is as printed: its key, its digits and its end
-module _ (hours key admitted : ℕ) (s : List ℕ) (at : ℕ) (whole : isAt (headerLine hours (Row key admitted) s at) ≡ true) where
+-- a row that is as printed, by its line
+pub row-whole : (hours key admitted : ℕ) (s : List ℕ) (at : ℕ) → isAt (headerLine hours (Row key admitted) s at) ≡ true → RowStands hours key s at
+unfolding headerLine saidAt
+row-whole hours key admitted s at whole = whole
+
+-- its key, its digits and its end
+module _ (hours key : ℕ) (s : List ℕ) (at : ℕ) (whole : RowStands hours key s at) where
   abbrev pub rowKey : Next
   rowKey = keyAt (keyOf key) s at
 
-  row-whole : isAt (andThen (rowAt hours key s at) (lineFeed s)) ≡ true
-  unfolding headerLine saidAt
-  row-whole = whole
-
   row-digits : isAt (andThen rowKey (digitsAt hours s)) ≡ true
   unfolding rowAt
-  row-digits = is-at-first (rowAt hours key s at) (lineFeed s) row-whole
+  row-digits = is-at-first (rowAt hours key s at) (lineFeed s) whole
 
   row-key : rowKey ≡ At (placeIn rowKey)
   row-key = is-at rowKey (is-at-first rowKey (digitsAt hours s) row-digits)
@@ -69,7 +69,7 @@ module _ (hours key admitted : ℕ) (s : List ℕ) (at : ℕ) (whole : isAt (hea
   module _ (start : ℕ) (p : start ≡ placeIn rowKey) where
     pub start-inside : start + hours ≤ length s
     start-inside =
-        let inside = feed-inside s (placeIn rowKey + hours) (ap (λ (x : Next). isAt (andThen x (lineFeed s))) (sym row-end) ∙ row-whole) in
+        let inside = feed-inside s (placeIn rowKey + hours) (ap (λ (x : Next). isAt (andThen x (lineFeed s))) (sym row-end) ∙ whole) in
         omega arith
 
     pub digits-are : _≡_ {A = ℕ → ℕ} (λ h. digitAt s (start + h)) (digitFrom key s (At at))
@@ -83,15 +83,15 @@ number-range hours s at is l h n e = rw is (e ∙ (λ i. liesIn (l i) (h i) (n i
 
 module _ (hours : ℕ) {line : Line} (s : List ℕ) (at : ℕ) {key admitted : ℕ} (is : line ≡ Row key admitted)
     (whole : isAt (headerLine hours line s at) ≡ true) (start : ℕ) (p : start ≡ placeIn (keyAt (keyOf key) s at)) where
-  row-printed : isAt (headerLine hours (Row key admitted) s at) ≡ true
-  row-printed = rw is at whole
+  row-printed : RowStands hours key s at
+  row-printed = row-whole hours key admitted s at (rw is at whole)
 
   pub row-inside : start + hours ≤ length s
-  row-inside = start-inside hours key admitted s at row-printed start p
+  row-inside = start-inside hours key s at row-printed start p
 
   pub row-range : {r : Bool} → r ≡ allTo (λ h. marked admitted (digitAt s (start + h))) hours → r ≡ lineInRange hours line s (At at)
   unfolding lineInRange
-  row-range e = rw is (e ∙ ap (λ (f : ℕ → ℕ). allTo (λ h. marked admitted (f h)) hours) (digits-are hours key admitted s at row-printed start p))
+  row-range e = rw is (e ∙ ap (λ (f : ℕ → ℕ). allTo (λ h. marked admitted (f h)) hours) (digits-are hours key s at row-printed start p))
 
 -- ---- what stands behind a key, whose line has a place that was told
 module _ (layout : List Line) (hours : ℕ) (s at : List ℕ) (p : Placed layout hours s at) (key : ℕ) {j : ℕ} (is : j ≡ lineOf key layout) (u : j ≤ length layout) where
@@ -109,6 +109,5 @@ module _ (layout : List Line) (hours : ℕ) (s at : List ℕ) (p : Placed layout
   unfolding digitOn
   digits-told = ap (digitFrom key s) key-told
 
-  pub word-told : {r : ℕ} → r ≡ word hours (λ h. eqb (digitFrom key s toldAt h) 1) → r ≡ rowWord layout hours key s
-  unfolding rowWord
-  word-told e = e ∙ ap (λ (f : ℕ → ℕ). word hours (λ h. eqb (f h) 1)) digits-told
+  pub word-told : (digit : ℕ) {r : ℕ} → r ≡ word hours (λ h. eqb (digitFrom key s toldAt h) digit) → r ≡ word hours (λ h. eqb (digitOn layout hours key s h) digit)
+  word-told digit e = e ∙ ap (λ (f : ℕ → ℕ). word hours (λ h. eqb (f h) digit)) digits-told

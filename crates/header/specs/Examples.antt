@@ -18,7 +18,7 @@ use Rattle.header.specs.Layout.{lineIn, digitsAt, rowAt, runOf, saidAt, 
 use Rattle.header.specs.Header.{CATEGORIES, MARKS, form1, form2, hoursOf, headerFault, rowWord, marksBy, marksUnder, nextUnder}
 
 -- what a proof by computation opens
-judged : List ℕ → Verdict
+unfoldable pub judged : List ℕ → Verdict
 unfolding layoutForm layoutRange lineInRange numberOn digitOn rowWord marksBy linePlace headerLine saidAt rowAt digitsAt runOf valueIn afterFields fieldAt valueAt keyAt numberAt naturalAt moreDigits digitAt allTo firstOf upTo word
 judged s = headerFault s
 

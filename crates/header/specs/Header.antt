@@ -1,5 +1,6 @@
--- A header, a line per key: `form`, in form 2 `hours`, then `unit`, `rtc`, seven rows of marks and the closing empty line. It knows FORM and
--- RANGE only. Form 1 has eleven lines and is a day of 24 hours. Form 2 has twelve, and says how many hours its day has.
+-- A header, a line per key. It knows FORM and RANGE only. A day's sheet has `form`, in form 2 `hours`, then `unit`, `rtc`, seven rows of marks and the
+-- closing empty line: form 1 has eleven lines and is a day of 24 hours, form 2 has twelve and says how many hours its day has. The day of an
+-- internal controllable line (ICL) has a header of its own, of four lines; what decides it is said here with the others, and what it says in IclHeader.
 use mathlib.Core.Bool.{Bool, true, false}
 use mathlib.Core.List.{List, [], _∷_}
 use Prim.Native.Nat.{ℕ}
@@ -12,9 +13,11 @@ use Rattle.tariff.specs.declared.Marks.{Marks}
 use Rattle.tariff.specs.Sheet.{SHORTEST-DAY, USUAL-DAY, LONGEST-DAY, isCount, hoursBy}
 use Rattle.tariff.specs.Reply.{Verdict, clear, fault}
 use Rattle.text.specs.declared.Next.the-variants.{At}
-use Rattle.keys.specs.Keys.{FORM-LINE, HOURS-LINE, UNIT-LINE, RTC-LINE, CAT-LINE, X1-LINE, X2-LINE, X3-LINE, X4-LINE, X5-LINE, X6-LINE}
+use Rattle.keys.specs.Keys.{FORM-LINE, HOURS-LINE, UNIT-LINE, RTC-LINE, CAT-LINE, X1-LINE, X2-LINE, X3-LINE, X4-LINE, X5-LINE, X6-LINE, LINE-LINE, MARK-LINE}
 use Rattle.lines.specs.Line.{placeIn, filled}
 use Rattle.marks.specs.Word.{word}
+use Rattle.header.specs.declared.layout.Form.{Form}
+use Rattle.header.specs.declared.layout.Form.the-variants.{One, Two, Icl}
 use Rattle.header.specs.declared.layout.Line.{Line}
 use Rattle.header.specs.declared.layout.Line.the-variants.{Number, Row, Run, Close}
 use Rattle.header.specs.Layout.{admits, linePlace, numberFrom, layoutFault, numberOn, digitOn}
@@ -54,29 +57,68 @@ form1 = Number FORM-LINE (pos 1) (pos 1) ∷ unitAndMarks true
 abbrev pub form2 : (judged : Bool) → List Line
 form2 judged = Number FORM-LINE (pos 2) (pos 2) ∷ Number HOURS-LINE (pos SHORTEST-DAY) (pos LONGEST-DAY) ∷ unitAndMarks judged
 
-abbrev pub layoutBy : (two judged : Bool) → List Line
-layoutBy true judged = form2 judged
-layoutBy false judged = form1
+-- an ICL's hours: not eligible, marked (i) and marked (ii)
+abbrev pub ICL-MARKS : ℕ
+ICL-MARKS = admits (0 ∷ 1 ∷ 2 ∷ [])
 
--- ---- which of them a text has: the value on line 1 decides the layout, where every number but 2 is form 1's, and that on form 2's line 2 the count
+abbrev pub iclLines : (judged : Bool) → List Line
+iclLines judged =
+    Number LINE-LINE (pos 1) (pos 9999999)
+    ∷ Number HOURS-LINE (pos SHORTEST-DAY) (pos LONGEST-DAY)
+    ∷ row judged MARK-LINE ICL-MARKS
+    ∷ Close
+    ∷ []
+
+abbrev pub layoutBy : Form → (judged : Bool) → List Line
+layoutBy One judged = form1
+layoutBy Two judged = form2 judged
+layoutBy Icl judged = iclLines judged
+
+-- ---- a text as a header of a form: how many hours its day has, which lines that gives it, and the two checks
+
+-- form 1 is a usual day's, and the others say the count on their second line. That stands in front of every row, so that nothing has to be known of
+-- their lengths
+abbrev pub countBy : Form → List ℕ → ℤ
+countBy One s = pos USUAL-DAY
+countBy Two s = numberOn (form2 false) 0 HOURS-LINE s
+countBy Icl s = numberOn (iclLines false) 0 HOURS-LINE s
+
+abbrev pub layoutIn : Form → List ℕ → List Line
+layoutIn form s = layoutBy form (isCount (countBy form s))
+
+abbrev pub hoursIn : Form → List ℕ → ℕ
+hoursIn form s = hoursBy (countBy form s)
+
+abbrev pub faultIn : Form → List ℕ → Verdict
+faultIn form s = layoutFault (layoutIn form s) (hoursIn form s) s
+
+-- the place behind it. That of a refused header is given as 0, which decides nothing: every hour is refused
+abbrev pub nextIn : Form → Verdict → List ℕ → ℕ
+nextIn form clear s = placeIn (linePlace (layoutIn form s) (hoursIn form s) (length (layoutIn form s)) s)
+nextIn form (fault number place) s = 0
+
+-- ---- a day's sheet: the value on line 1 decides the form, where every number but 2 is form 1's
 
 abbrev pub isForm2 : List ℕ → Bool
 isForm2 s = eqZ (numberFrom FORM-LINE s (At 0)) (pos 2)
 
--- the count stands in front of every row, so that nothing has to be known of their lengths
+abbrev pub formBy : (two : Bool) → Form
+formBy two = if two then Two else One
+
+abbrev pub formOf : List ℕ → Form
+formOf s = formBy (isForm2 s)
+
 abbrev pub countOf : List ℕ → ℤ
-countOf s = if isForm2 s then numberOn (form2 false) 0 HOURS-LINE s else pos USUAL-DAY
+countOf s = countBy (formOf s) s
 
 abbrev pub layoutOf : List ℕ → List Line
-layoutOf s = layoutBy (isForm2 s) (isCount (countOf s))
+layoutOf s = layoutIn (formOf s) s
 
 abbrev pub hoursOf : List ℕ → ℕ
-hoursOf s = hoursBy (countOf s)
-
--- ---- the two checks
+hoursOf s = hoursIn (formOf s) s
 
 abbrev pub headerFault : List ℕ → Verdict
-headerFault s = layoutFault (layoutOf s) (hoursOf s) s
+headerFault s = faultIn (formOf s) s
 
 -- ---- the unit, and the marks, each row one word, `cat` apart
 
@@ -107,11 +149,10 @@ marksOf s = marksBy (layoutOf s) (hoursOf s) s
 abbrev pub noMarks : Marks
 noMarks = record { rtc = false; cat = replicate LONGEST-DAY 0; x1 = 0; x2 = 0; x3 = 0; x4 = 0; x5 = 0; x6 = 0 }
 
--- a refused header has no marks, and the place behind it is given as 0, which decides nothing: every hour is refused
+-- a refused header has none
 abbrev pub marksUnder : Verdict → List ℕ → Marks
 marksUnder clear s = marksOf s
 marksUnder (fault number place) s = noMarks
 
 abbrev pub nextUnder : Verdict → List ℕ → ℕ
-nextUnder clear s = placeIn (linePlace (layoutOf s) (hoursOf s) (length (layoutOf s)) s)
-nextUnder (fault number place) s = 0
+nextUnder v s = nextIn (formOf s) v s

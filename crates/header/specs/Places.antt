@@ -5,17 +5,17 @@ use mathlib.Core.List.{List}
 use Prim.Native.Nat.{ℕ, _≤_}
 use lib.Dec.{ltb, eqb}
 use lib.ListN.{getD, length}
-use Rattle.tariff.specs.Sheet.{isCount}
-use Rattle.tariff.specs.Reply.{FORM, Verdict, unless}
+use Rattle.tariff.specs.Reply.{FORM, Verdict, clear, unless, shown}
 use Rattle.text.specs.declared.Next.the-variants.{At}
 use Rattle.keys.specs.Keys.{KEYS}
-use Rattle.lines.specs.Line.{isAt}
+use Rattle.lines.specs.Line.{isAt, andThen, lineFeed}
+use Rattle.header.specs.declared.layout.Form.{Form}
 use Rattle.header.specs.declared.layout.Line.{Line}
 use Rattle.header.specs.declared.layout.Line.the-variants.{Number, Row, Run, Close}
-use Rattle.header.specs.declared.heads.Kind.{Kind}
+use Rattle.header.specs.declared.heads.Head.{Head}
 use Rattle.header.specs.declared.heads.Places.{Places}
-use Rattle.header.specs.Layout.{headerLine, linePlace, layoutForm}
-use Rattle.header.specs.Header.{isForm2, countOf, hoursOf}
+use Rattle.header.specs.Layout.{rowAt, headerLine, linePlace, layoutForm}
+use Rattle.header.specs.Header.{layoutBy, hoursIn, faultIn, nextIn}
 
 -- a line's key is one of the table's
 abbrev pub isKeyed : Line → Bool
@@ -29,6 +29,10 @@ pub record Stands (hours : ℕ) (line : Line) (s : List ℕ) (at : ℕ) : Type 0
   pub keyed : isKeyed line ≡ true
   pub whole : isAt (headerLine hours line s at) ≡ true
 
+-- and a row, whichever digits it admits
+abbrev pub RowStands : (hours key : ℕ) → List ℕ → (at : ℕ) → Type 0
+RowStands hours key s at = isAt (andThen (rowAt hours key s at) (lineFeed s)) ≡ true
+
 -- the place of each line, all as printed, and that behind the header
 abbrev pub Placed : (layout : List Line) → (hours : ℕ) → List ℕ → List ℕ → Type 0
 Placed layout hours s at = (j : ℕ) → j ≤ length layout → linePlace layout hours j s ≡ At (getD at j 0)
@@ -41,8 +45,9 @@ pub record PlacesRead (layout : List Line) (hours : ℕ) (s : List ℕ) (r : Pla
   pub told : refusedAt FORM (r .broken) ≡ layoutForm layout hours s
   pub placed : r .broken ≡ 0 → Placed layout hours s (r .at)
 
--- the layout of a header and the count of its day's hours, as they are read from its first lines
-pub record KindRead (s : List ℕ) (r : Kind) : Type 0 where
-  pub two : r .two ≡ isForm2 s
-  pub judged : r .judged ≡ isCount (countOf s)
-  pub hours : r .hours ≡ hoursOf s
+-- a header of a form, as it is read; its rows are judged where it has no fault
+pub record HeadRead (form : Form) (s : List ℕ) (r : Head) : Type 0 where
+  pub fault : shown (r .found) ≡ faultIn form s
+  pub hours : r .hours ≡ hoursIn form s
+  pub next : r .next ≡ nextIn form (faultIn form s) s
+  pub placed : faultIn form s ≡ clear → Placed (layoutBy form true) (r .hours) s (r .at)

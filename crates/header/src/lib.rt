@@ -1,8 +1,11 @@
-// A day's header: its lines as bytes in, the day's marks and the count of its hours out, or the line that refuses them.
+// A header, of a day's sheet or of an internal controllable line's (ICL's) day: its lines as bytes in, the marks and the count of its hours out, or
+// the line that refuses them.
 ghost use mathlib.Core.Path.{_≡_};
 ghost use Rattle.tariff.specs.Reply.{shown};
-ghost use Rattle.header.specs.Header.{headerFault, isForm2, hoursOf, noMarks, marksUnder, nextUnder};
-use tariff::Check;
+ghost use Rattle.marks.specs.Word.{word};
+ghost use Rattle.header.specs.Header.{headerFault, isForm2, hoursOf, marksUnder, nextUnder};
+ghost use Rattle.header.specs.IclHeader.{iclHeaderFault, iclHoursOf, iclUnmarkedUnder, iclNextUnder};
+use crate::layout::Form;
 use tariff::Found;
 use tariff::Marks;
 
@@ -18,6 +21,14 @@ pub struct Header {
     pub next: usize,
 }
 
+// What an ICL's header says: its fault or none, the hours of its day that are not marked, how many it has, and the place behind it.
+pub struct IclHeader {
+    pub found: Found,
+    pub unmarked: u32,
+    pub hours: usize,
+    pub next: usize,
+}
+
 // Reads the header at the front of a sheet. Any bytes are judged. A refused header has no marks, so that no hour is eligible by it.
 pub fn read_header(s: &[u8]) -> Header
     ensures found { λ r. ⌜ shown (r .found) ≡ headerFault (now (s .entry)) ⌝ }
@@ -25,25 +36,63 @@ pub fn read_header(s: &[u8]) -> Header
     ensures hours { λ r. ⌜ r .hours ≡ hoursOf (now (s .entry)) ⌝ }
     ensures next { λ r. ⌜ r .next ≡ nextUnder (headerFault (now (s .entry))) (now (s .entry)) ⌝ }
 {
-    let kind = heads::kind_of(s);
-    let two = kind.two;
-    let judged = kind.judged;
-    let hours = kind.hours;
-    let places = heads::places_of(s, two, judged, hours);
-    let broken = places.broken;
-    if broken != 0 {
-        return refused(Check::Form(broken), hours);
+    let two = is_form2(s);
+    let head = heads::head_of(s, layout::form_by(two));
+    let found = head.found;
+    let hours = head.hours;
+    let next = head.next;
+    if let Found::Fault(_) = found {
+        return Header {
+            found,
+            marks: Marks {
+                rtc: false,
+                cat: [0u8; tariff::LONGEST_DAY],
+                x1: 0,
+                x2: 0,
+                x3: 0,
+                x4: 0,
+                x5: 0,
+                x6: 0,
+            },
+            hours,
+            next,
+        };
     }
-    let at = places.at;
-    let odd = heads::odd_line(s, at, two, judged, hours);
-    if odd != 0 {
-        return refused(Check::Range(odd), hours);
-    }
+    let at = head.at;
     Header {
-        found: Found::Nothing,
+        found,
         marks: heads::marks_of(s, at, two, hours),
         hours,
-        next: at[layout::lines_of(two, judged)],
+        next,
+    }
+}
+
+// Reads the header at the front of an ICL's day. Any bytes are judged. An hour is eligible where it is marked (i) or (ii), and none is by a
+// refused header.
+pub fn read_icl_header(s: &[u8]) -> IclHeader
+    ensures found { λ r. ⌜ shown (r .found) ≡ iclHeaderFault (now (s .entry)) ⌝ }
+    ensures unmarked { λ r. ⌜ r .unmarked ≡ word (iclHoursOf (now (s .entry))) (iclUnmarkedUnder (iclHeaderFault (now (s .entry))) (now (s .entry))) ⌝ }
+    ensures hours { λ r. ⌜ r .hours ≡ iclHoursOf (now (s .entry)) ⌝ }
+    ensures next { λ r. ⌜ r .next ≡ iclNextUnder (iclHeaderFault (now (s .entry))) (now (s .entry)) ⌝ }
+{
+    let head = heads::head_of(s, Form::Icl);
+    let found = head.found;
+    let hours = head.hours;
+    let next = head.next;
+    if let Found::Fault(_) = found {
+        return IclHeader {
+            found,
+            unmarked: rows::every_hour(hours),
+            hours,
+            next,
+        };
+    }
+    let at = head.at;
+    IclHeader {
+        found,
+        unmarked: heads::row_word(s, at[2], keys::MARK_LINE, hours, 0),
+        hours,
+        next,
     }
 }
 
@@ -52,25 +101,4 @@ pub fn is_form2(s: &[u8]) -> bool
     ensures { λ r. ⌜ r ≡ isForm2 (now (s .entry)) ⌝ }
 {
     heads::is_number(heads::number_of(s, 0, keys::FORM_LINE), 2)
-}
-
-// A header that a check refuses.
-fn refused(check: Check, hours: usize) -> Header
-    ensures { λ r. ⌜ (r .found ≡ Found.Fault check) × (r .marks ≡ noMarks) × (r .hours ≡ hours) × (r .next ≡ 0) ⌝ }
-{
-    Header {
-        found: Found::Fault(check),
-        marks: Marks {
-            rtc: false,
-            cat: [0u8; tariff::LONGEST_DAY],
-            x1: 0,
-            x2: 0,
-            x3: 0,
-            x4: 0,
-            x5: 0,
-            x6: 0,
-        },
-        hours,
-        next: 0,
-    }
 }

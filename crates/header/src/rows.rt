@@ -1,5 +1,6 @@
 // Rows of marks, over the count of a day's hours: a day on which the clock changes has another count.
 ghost use mathlib.Core.Path.{_≡_};
+ghost use mathlib.Core.Bool.{true};
 ghost use Prim.Native.Nat.{_+_, _<_, _≤_};
 ghost use lib.Dec.{eqb};
 ghost use lib.ListN.{length};
@@ -78,20 +79,28 @@ pub fn all_admitted(s: &[u8], at: usize, hours: usize, admitted: u32) -> bool
     true
 }
 
-// The hours whose digit is 1, as a word.
-pub fn word_at(s: &[u8], at: usize, hours: usize) -> u32
+// The hours whose digit is `digit`, as a word.
+pub fn word_at(s: &[u8], at: usize, hours: usize, digit: u64) -> u32
     requires { ⌜ (hours < 32) × (at + hours ≤ length (now s)) ⌝ }
-    ensures { λ r. ⌜ r ≡ word hours (λ h. eqb (digitAt (now (s .entry)) (at + h)) 1) ⌝ }
+    ensures { λ r. ⌜ r ≡ word hours (λ h. eqb (digitAt (now (s .entry)) (at + h)) digit) ⌝ }
 {
     let mut row: u32 = 0;
     let mut h: usize = 0;
     while h < hours {
-        if text::digit_at(s, at + h) == 1 {
+        if text::digit_at(s, at + h) == digit {
             row |= 1 << h;
         }
         h += 1;
     }
     row
+}
+
+// Each hour of the day.
+pub fn every_hour(hours: usize) -> u32
+    requires { ⌜ hours < 32 ⌝ }
+    ensures { λ r. ⌜ r ≡ word hours (λ h. true) ⌝ }
+{
+    (1 << hours) - 1
 }
 
 // The digits themselves, in an array for the longest day.

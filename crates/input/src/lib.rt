@@ -4,34 +4,59 @@ ghost use mathlib.Core.Bool.{true, false};
 ghost use lib.ListN.{take};
 ghost use Rattle.io.specs.Counts.{Counts};
 ghost use Rattle.intake.specs.Intake.{PIECES, TakenIn};
-ghost use Rattle.input.specs.Said.{piecesSaid};
+ghost use Prim.Native.Nat.{_+_};
+ghost use Rattle.input.specs.Said.{isHeaded, hoursSaid};
 
-// How many pieces a text has by what its first bytes say: what stands in front of the blocks, and a block for each hour.
-fn pieces_of(text: &[u8], sheet: bool) -> usize
-    ensures { λ r. ⌜ r ≡ piecesSaid sheet (now (text .entry)) ⌝ }
-{
-    if sheet {
-        let header = header::read_header(text);
-        return header.hours + 1;
-    }
-    imports::hours_of(text) + 1
+// Which text it is: a day's sheet, the day of an internal controllable line, or an import.
+enum Kind {
+    Sheet,
+    Line,
+    Import,
 }
 
-// The same of a store's first n bytes.
-fn pieces_in(store: &[u8], n: usize, sheet: bool) -> usize
-    requires { ⌜ Counts n (now store) ⌝ }
-    ensures { λ r. ⌜ r ≡ piecesSaid sheet (take n (now (store .entry))) ⌝ }
+// The first two have a header, in which long runs of digits are squeezed; an import is taken in as it is.
+fn is_headed(kind: Kind) -> bool
+    ensures { λ r. ⌜ r ≡ isHeaded kind ⌝ }
 {
-    pieces_of(&store[..n], sheet)
+    match kind {
+        Kind::Sheet => true,
+        Kind::Line => true,
+        Kind::Import => false,
+    }
+}
+
+// How many hours its day has by what its first bytes say.
+fn hours_of(text: &[u8], kind: Kind) -> usize
+    ensures { λ r. ⌜ r ≡ hoursSaid kind (now (text .entry)) ⌝ }
+{
+    match kind {
+        Kind::Sheet => {
+            let header = header::read_header(text);
+            header.hours
+        }
+        Kind::Line => {
+            let header = header::read_icl_header(text);
+            header.hours
+        }
+        Kind::Import => imports::hours_of(text),
+    }
+}
+
+// How many pieces a store's first n bytes then say: what stands in front of the blocks, and a block for each hour.
+fn pieces_in(store: &[u8], n: usize, kind: Kind) -> usize
+    requires { ⌜ Counts n (now store) ⌝ }
+    ensures { λ r. ⌜ r ≡ hoursSaid kind (take n (now (store .entry))) + 1 ⌝ }
+{
+    hours_of(&store[..n], kind) + 1
 }
 
 // Takes in a text read by read; answers how many bytes of the store are kept. Nothing says that an input ends, so the turns are counted down
 // from a number that no run uses up.
-fn take_text(store: &mut [u8], sheet: bool) -> usize
+fn take_text(store: &mut [u8], kind: Kind) -> usize
     ensures within { λ r. ⌜ Counts r (now (store .exit)) ⌝ }
-    ensures taken { λ r. ⌜ TakenIn (now (store .entry)) PIECES sheet (now (store .exit)) r ⌝ }
+    ensures taken { λ r. ⌜ TakenIn (now (store .entry)) PIECES (isHeaded kind) (now (store .exit)) r ⌝ }
 {
-    let mut taken = intake::begin(intake::PIECES, sheet);
+    let mut taken = intake::begin(intake::PIECES, is_headed(kind));
     let mut turns = u64::MAX;
     while turns > 0 {
         taken = intake::take_some(store, taken);
@@ -40,7 +65,7 @@ fn take_text(store: &mut [u8], sheet: bool) -> usize
         if taken.ended {
             return n;
         }
-        if intake::goes_past(kept, intake::PIECES, pieces_in(store, n, sheet)) {
+        if intake::goes_past(kept, intake::PIECES, pieces_in(store, n, kind)) {
             return n;
         }
         turns -= 1;
@@ -49,18 +74,26 @@ fn take_text(store: &mut [u8], sheet: bool) -> usize
     kept.n
 }
 
-// Takes in a day's sheet: long runs of digits in its header are squeezed.
+// Takes in a day's sheet.
 pub fn take_sheet(store: &mut [u8]) -> usize
     ensures within { λ r. ⌜ Counts r (now (store .exit)) ⌝ }
     ensures taken { λ r. ⌜ TakenIn (now (store .entry)) PIECES true (now (store .exit)) r ⌝ }
 {
-    take_text(store, true)
+    take_text(store, Kind::Sheet)
 }
 
-// Takes in an import's text, as it is.
+// Takes in the day of an internal controllable line.
+pub fn take_line(store: &mut [u8]) -> usize
+    ensures within { λ r. ⌜ Counts r (now (store .exit)) ⌝ }
+    ensures taken { λ r. ⌜ TakenIn (now (store .entry)) PIECES true (now (store .exit)) r ⌝ }
+{
+    take_text(store, Kind::Line)
+}
+
+// Takes in an import's text.
 pub fn take_import(store: &mut [u8]) -> usize
     ensures within { λ r. ⌜ Counts r (now (store .exit)) ⌝ }
     ensures taken { λ r. ⌜ TakenIn (now (store .entry)) PIECES false (now (store .exit)) r ⌝ }
 {
-    take_text(store, false)
+    take_text(store, Kind::Import)
 }

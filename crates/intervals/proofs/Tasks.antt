@@ -1,9 +1,9 @@
 -- An interval's outcome, by the task that the walk takes: the one integral from D to the limit serves both branches.
-use mathlib.Core.Path.{_≡_, refl, ap, _∙_}
+use mathlib.Core.Path.{_≡_, refl, sym, ap, _∙_}
 use mathlib.Core.Bool.{Bool, true, false}
 use mathlib.Core.List.{List}
 use Prim.Native.Nat.{ℕ}
-use lib.IntN.{ℤ, pos, negℤ, _+ℤ_, _-ℤ_, _*ℤ_, +ℤ-idl}
+use lib.IntN.{ℤ, pos, negℤ, _+ℤ_, _-ℤ_, _*ℤ_, +ℤ-idl, +ℤ-idr}
 use lib.Signed.{ltZ, leZ}
 use Rattle.exact.specs.Choice.{if_then_else_}
 use Rattle.exact.specs.Whole.{minℤ, maxℤ, span, Within}
@@ -18,20 +18,24 @@ use Rattle.tariff.specs.declared.Curve.{Curve}
 use Rattle.tariff.specs.declared.DayAhead.{DayAhead}
 use Rattle.tariff.specs.declared.Interval.{Interval}
 use Rattle.tariff.specs.declared.Hour.{Hour}
+use Rattle.tariff.specs.declared.IclHour.{IclHour}
+use Rattle.tariff.specs.declared.IclInterval.{IclInterval}
 use Rattle.tariff.specs.declared.Check.the-variants.{Derate}
 use Rattle.tariff.specs.declared.Found.the-variants.{Nothing, Fault}
 use Rattle.tariff.specs.Units.{kw, price, seconds, grains, grainsOf}
 use Rattle.tariff.specs.Curve.{Amount, known, none, change, quote, sumUp, integral}
 use Rattle.tariff.specs.Eligible.{lags}
 use Rattle.tariff.specs.Derate.{exceedsRoom, reduced}
-use Rattle.tariff.specs.Contributions.{isLower, limitOf, lowerGrains, upperGrains, energy, pointOf, cappedOf, lowerIn, limitIn, otherThanEnergy}
+use Rattle.tariff.specs.Contributions.{isLower, limitOf, curveIn, lowerGrains, upperGrains, energyBy, energy, pointOf, cappedOf, lowerIn, limitIn, otherThanEnergy}
 use Rattle.tariff.specs.Hour.{withOthers, outcome}
-use Rattle.tariff.specs.Outcome.{gives}
+use Rattle.tariff.specs.Controllable.{iclIsLower, iclMargin, iclLowerGrains, iclUpperGrains, iclEnergy}
+use Rattle.tariff.specs.Outcome.{gives, orReach}
 use Rattle.tariff.proofs.Demands.{downward-is-the-negative}
 use Rattle.tariff.proofs.Limits.{within-if}
-use Rattle.intervals.specs.declared.steps.Task.{Task}
+use Rattle.tasks.specs.declared.Task.{Task}
+use Rattle.tasks.specs.Task.{idleTask, iclTask}
 use Rattle.derate.specs.Five.{kwFive, kwAt}
-use Rattle.intervals.specs.Task.{idleTask, readyTask, taskOf, lowOf, highOf, costUp, signedCost, energyPart, finished, ofCost, ofTask, Fitting}
+use Rattle.intervals.specs.Task.{readyTask, taskOf, lowOf, highOf, costUp, signedCost, energyPart, finished, ofCost, ofTask, Fitting}
 
 -- ---- the integral from D to the limit, from the cost of the stretch taken upward
 
@@ -89,10 +93,48 @@ module _ (da rt : Curve) (D L pen s others : ℤ) where
       record { stop = Nothing; lower = lower; from = kw D; limit = kw L; pen = price pen; s = seconds s; beside = grains (pos 0); others = grains others }
 
   energy-task : (lower : Bool) → withOthers others (energy lower da rt D L pen s) ≡ ofTask da rt (taskBy lower)
-  unfolding energy byIntegral taskBy
+  unfolding energyBy byIntegral taskBy
   energy-task true =
       rw (downward-is-the-negative da L D, change-twice) (by-integral (taskBy true) da (λ z. lowerGrains D L pen s (negℤ z)) (λ y. rw (lower-is D L pen s y)))
   energy-task false = by-integral (taskBy false) rt (upperGrains D L pen s) (λ y. rw (upper-is D L pen s y))
+
+-- ---- an internal controllable line's
+
+or-reach : (x : Amount) → orReach x ≡ withOthers (pos 0) x
+or-reach (known grains) = ap gives (sym (+ℤ-idr grains))
+or-reach none = refl
+
+module _ (dasi dasw : Kw) (v : IclInterval) (y : ℤ) where
+  icl-lower-is : iclLowerGrains dasi dasw v (negℤ y)
+      ≡ grainsOf (dasi .0 -ℤ v .aei .0) (v .pin .0) (v .s .0) +ℤ y *ℤ v .s .0 +ℤ grainsOf (v .aew .0 -ℤ dasw .0) (v .pout .0) (v .s .0)
+  icl-lower-is = simp expandℤ
+
+  icl-upper-is : (iclMargin dasi dasw v +ℤ y) *ℤ v .s .0
+      ≡ grainsOf (dasi .0 -ℤ v .aei .0) (v .pin .0) (v .s .0) +ℤ y *ℤ v .s .0 +ℤ grainsOf (v .aew .0 -ℤ dasw .0) (v .pout .0) (v .s .0)
+  icl-upper-is = simp expandℤ
+
+module _ (h : IclHour) (v : IclInterval) where
+  abbrev own : Task
+  own = iclTask (h .dasi) (h .dasw) v
+
+  abbrev below : ℤ → ℤ
+  below = iclLowerGrains (h .dasi) (h .dasw) v
+
+  abbrev above : ℤ → ℤ
+  above = iclUpperGrains (h .dasi) (h .dasw) v
+
+  branch-task : (lower : Bool) → iclIsLower (h .dasi) v ≡ lower
+      → withOthers (pos 0) (energyBy lower (h .da) (h .rt) (h .dasi .0) (v .aei .0) below above)
+      ≡ ofCost own (costUp (curveIn lower (h .da) (h .rt)) (lowOf own) (highOf own) (v .s .0))
+  unfolding energyBy byIntegral
+  branch-task true e =
+      rw (downward-is-the-negative (h .da) (v .aei .0) (h .dasi .0), change-twice)
+      (by-integral own (h .da) (λ z. below (negℤ z)) (λ y. rw (e, icl-lower-is (h .dasi) (h .dasw) v y)))
+  branch-task false e = by-integral own (h .rt) above (λ y. rw (e, icl-upper-is (h .dasi) (h .dasw) v y))
+
+  pub icl-task-outcome : orReach (iclEnergy h v) ≡ ofTask (h .da) (h .rt) own
+  unfolding iclEnergy
+  icl-task-outcome = or-reach (iclEnergy h v) ∙ branch-task (iclIsLower (h .dasi) v) refl
 
 -- ---- a task by its cases
 

@@ -16,7 +16,7 @@ use Rattle.tariff.specs.Curve.{none}
 use Rattle.tariff.specs.Contributions.{curveIn}
 use Rattle.tariff.specs.Outcome.{Outcome, gives}
 use Rattle.tariff.proofs.Ranges.{curve-fits}
-use Rattle.intervals.specs.declared.steps.Task.{Task}
+use Rattle.tasks.specs.declared.Task.{Task}
 use Rattle.intervals.specs.Task.{taskAt, lowOf, highOf, costUp, finished, ofCost, outcomesOf, Fitting, Walkable}
 use Rattle.intervals.specs.Walk.{WalkedTo}
 use Rattle.intervals.proofs.Scans.{Stretch, Priced, cost-before}

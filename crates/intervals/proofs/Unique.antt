@@ -12,11 +12,13 @@ use Rattle.tariff.specs.Units.{grains}
 use Rattle.tariff.specs.Reply.{Verdict, shown, clear}
 use Rattle.tariff.specs.Outcome.{Outcome}
 use Rattle.tariff.specs.Hour.{blockFault, outcomeAt}
+use Rattle.tariff.specs.Controllable.{iclFault, iclOutcomeAt}
 use Rattle.tariff.proofs.Demands.{one-finding}
 use Rattle.tariff.proofs.Answers.{one-worth}
 use Rattle.intervals.specs.declared.Contributions.{Contributions}
 use Rattle.intervals.specs.Walk.{grainsAt, ContributionsBy}
 use Rattle.intervals.proofs.work_out.Reads as work-out
+use Rattle.intervals.proofs.work_out_icl.Reads as work-out-icl
 use Rattle.intervals.proofs.import_part.Reads as import-part
 
 module _ (block : Verdict) (outcome : ℕ → Outcome) (n : ℕ) (r s : Contributions)
@@ -51,6 +53,9 @@ module _ (block : Verdict) (outcome : ℕ → Outcome) (n : ℕ) (r s : Contribu
 
 pub one-work-out : OneReply work-out.Post
 one-work-out κ a r s u v p q = one-contributions (blockFault (a .0) (a .1 .1 .0)) (outcomeAt (a .0) (a .1 .0)) (a .0 .n) r s p q
+
+pub one-work-out-icl : OneReply work-out-icl.Post
+one-work-out-icl κ a r s u v p q = one-contributions (iclFault (a .0) (a .1 .1 .0)) (iclOutcomeAt (a .0) (a .1 .0)) (a .0 .n) r s p q
 
 pub one-import-part : OneReply import-part.Post
 one-import-part κ a r s u v p q = one-worth r s _ p q

@@ -17,7 +17,7 @@ use Rattle.tariff.specs.declared.Check.{Check}
 use Rattle.tariff.specs.Units.{grains}
 use Rattle.tariff.specs.Reply.{numberOf, placeOf, Verdict, clear, firstOf}
 use Rattle.tariff.specs.Outcome.{Outcome, gives, stops, faultAt, firstStop, amount}
-use Rattle.tariff.proofs.Checks.{never-clear, first-same, first-clear, fault-first}
+use Rattle.tariff.proofs.Checks.{never-clear, first-clear, fault-first}
 use Rattle.intervals.specs.declared.steps.Walked.{Walked}
 use Rattle.intervals.specs.Walk.{grainsAt, Bounded, WalkedTo}
 
@@ -64,18 +64,6 @@ walk-begins outcome n =
 
 abbrev pub walked : (found : Found) → List Grains → Walked
 walked found parts = record { found = found; parts = parts }
-
--- intervals that come to the same are walked alike
-pub walked-alike : {outcome other : ℕ → Outcome} {n : ℕ} {r : Walked} → ((i : ℕ) → i < n → outcome i ≡ other i) → WalkedTo outcome n r → WalkedTo other n r
-unfolding firstStop
-walked-alike {outcome} {other} {n} same w =
-    record {
-      first = w .first ∙ first-same (λ i. faultAt i (outcome i)) (λ i. faultAt i (other i)) n (λ i u. ap (faultAt i) (same i u));
-      long = w .long;
-      bounded = w .bounded;
-      written = λ e i u. w .written e i u ∙ ap amount (same i u);
-      rest = w .rest;
-    }
 
 module _ {outcome : ℕ → Outcome} {n : ℕ} {parts : List Grains} {i : ℕ} (w : Walking outcome n parts i) where
   pub walk-ends : n ≤ i → WalkedTo outcome n (walked Nothing parts)

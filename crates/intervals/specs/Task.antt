@@ -1,6 +1,6 @@
 -- What an interval asks of the walk: a stretch of one curve to price, and what to make of its cost.
 use mathlib.Core.Path.{_≡_}
-use mathlib.Core.Bool.{Bool, true, false}
+use mathlib.Core.Bool.{Bool, true}
 use mathlib.Core.List.{List}
 use Prim.Native.Nat.{ℕ, _+_, _<_, _≤_}
 use lib.ListN.{length, getD}
@@ -15,8 +15,9 @@ use Rattle.tariff.specs.declared.DayAhead.{DayAhead}
 use Rattle.tariff.specs.declared.Found.{Found}
 use Rattle.tariff.specs.declared.Found.the-variants.{Nothing, Fault}
 use Rattle.tariff.specs.declared.Hour.{Hour}
+use Rattle.tariff.specs.declared.IclHour.{IclHour}
 use Rattle.tariff.specs.declared.Interval.{Interval}
-use Rattle.tariff.specs.Units.{kw, price, seconds, grains, grainsOf}
+use Rattle.tariff.specs.Units.{kw, grains, grainsOf}
 use Rattle.tariff.specs.Curve.{Amount, known, none, change, quote, sumUp}
 use Rattle.tariff.specs.Eligible.{lags}
 use Rattle.tariff.specs.Derate.{exceedsRoom, reduced}
@@ -24,23 +25,11 @@ use Rattle.tariff.specs.Contributions.{curveIn, lowerIn, limitIn, otherThanEner
 use Rattle.tariff.specs.Sheet.{curveInRange}
 use Rattle.tariff.specs.Reply.{REACH, numberOf, placeOf}
 use Rattle.tariff.specs.Hour.{interval}
+use Rattle.tariff.specs.Controllable.{iclInterval}
 use Rattle.tariff.specs.Outcome.{Outcome, gives, stops}
-use Rattle.intervals.specs.declared.steps.Task.{Task}
+use Rattle.tasks.specs.declared.Task.{Task}
+use Rattle.tasks.specs.Task.{idleTask, iclTaskOf}
 use Rattle.intervals.specs.declared.steps.Run.{Run}
-
--- nothing to price and nothing to add: what a lagging interval asks, and one that a check stops
-abbrev pub idleTask : Found → Task
-idleTask stop =
-    record {
-      stop = stop;
-      lower = false;
-      from = kw (pos 0);
-      limit = kw (pos 0);
-      pen = price (pos 0);
-      s = seconds (pos 0);
-      beside = grains (pos 0);
-      others = grains (pos 0);
-    }
 
 -- a generator counts nothing beside its energy inside the cap
 abbrev pub readyTask : DayAhead → Interval → Task
@@ -67,6 +56,10 @@ taskAt tasks i = getD tasks i (idleTask Nothing)
 -- what interval i of an hour asks, from 0: of an excluded hour nothing
 abbrev pub asked : Hour → Bool → ℕ → Task
 asked h isExcluded i = if isExcluded then idleTask Nothing else taskOf (h .ahead) (interval h i) (i + 1)
+
+-- and of an internal controllable line's
+abbrev pub iclAsked : IclHour → Bool → ℕ → Task
+iclAsked h isExcluded i = if isExcluded then idleTask Nothing else iclTaskOf (h .dasi) (h .dasw) (iclInterval h i)
 
 -- the first n tasks
 pub record TasksOf (task : ℕ → Task) (n : ℕ) (tasks : List Task) : Type 0 where

@@ -11,11 +11,13 @@ use Rattle.tariff.specs.declared.Check.{Check}
 use Rattle.tariff.specs.declared.Found.{Found}
 use Rattle.tariff.specs.declared.Found.the-variants.{Fault}
 use Rattle.tariff.specs.declared.Hour.{Hour}
+use Rattle.tariff.specs.declared.IclHour.{IclHour}
 use Rattle.tariff.specs.declared.Expected.{Expected}
 use Rattle.tariff.specs.Units.{grains}
 use Rattle.tariff.specs.Reply.{Verdict, shown, clear, _then_}
 use Rattle.tariff.specs.Outcome.{Outcome, firstStop, amount, sumBy}
 use Rattle.tariff.specs.Hour.{blockFault, outcomeAt}
+use Rattle.tariff.specs.Controllable.{iclFault, iclOutcomeAt}
 use Rattle.intervals.specs.declared.steps.Walked.{Walked}
 use Rattle.intervals.specs.declared.Contributions.{Contributions}
 
@@ -52,3 +54,7 @@ pub record ContributionsBy (block : Verdict) (outcome : ℕ → Outcome) (n : �
 -- a generator's hour: checks 1 to 7
 abbrev pub ContributionsOf : Hour → Bool → Expected → Contributions → Type 0
 ContributionsOf h isExcluded expected = ContributionsBy (blockFault h expected) (outcomeAt h isExcluded) (h .n)
+
+-- an internal controllable line's: checks 1 to 5 and 7
+abbrev pub IclContributionsOf : IclHour → Bool → Expected → Contributions → Type 0
+IclContributionsOf h isExcluded expected = ContributionsBy (iclFault h expected) (iclOutcomeAt h isExcluded) (h .n)

@@ -1,17 +1,23 @@
-// The contributions of an hour's intervals, behind checks 1 to 7: everything of the hour call but the lent row. And what the block
-// of a curtailed import gives to its day, behind checks 1, 2, 3 and 5.
+// The contributions of an hour's intervals, behind checks 1 to 7: everything of the hour call but the lent row. So of a generator's hour and
+// of an internal controllable line's. And what the block of a curtailed import gives to its day, behind checks 1, 2, 3 and 5.
 ghost use mathlib.Core.Path.{_≡_};
 ghost use Prim.Native.Nat.{_≤_};
 ghost use Rattle.exact.specs.Whole.{sumTo};
+ghost use Rattle.tariff.specs.Reply.{clear};
 ghost use Rattle.tariff.specs.Import.{importFault, importPart, worthBy, worthTold};
-ghost use Rattle.intervals.specs.Walk.{grainsAt, Bounded, refusedBy, ContributionsOf};
+ghost use Rattle.intervals.specs.Task.{outcomesOf, Walkable};
+ghost use Rattle.intervals.specs.Walk.{grainsAt, Bounded, refusedBy, ContributionsBy, ContributionsOf, IclContributionsOf};
+use tariff::Curve;
 use tariff::Expected;
 use tariff::Found;
 use tariff::Grains;
 use tariff::Hour;
+use tariff::IclHour;
 use tariff::ImportHour;
 use tariff::Worth;
+use tasks::Task;
 
+mod controllable;
 mod curtailed;
 mod others;
 mod prepare;
@@ -52,6 +58,25 @@ fn refused_by(found: Found) -> Contributions
     }
 }
 
+// What the tasks of an hour's intervals come to, where no check over its block refuses it.
+fn worked_out(tasks: [Task; 30], n: usize, da: Curve, rt: Curve) -> Contributions
+    requires { ⌜ Walkable tasks n da rt ⌝ }
+    ensures { λ r. ⌜ ContributionsBy clear (outcomesOf da rt tasks) n r ⌝ }
+{
+    let w = walk::walk(tasks, n, da, rt);
+    let found = w.found;
+    if let Found::Fault(check) = found {
+        return refused_by(Found::Fault(check));
+    }
+    let parts = w.parts;
+    let sum = sum_of(parts, n);
+    Contributions {
+        found: Found::Nothing,
+        parts,
+        sum,
+    }
+}
+
 // Judges a record by checks 1 to 7 and works out its intervals. Any values in any field are judged.
 pub fn work_out(h: Hour, excluded: bool, expected: Expected) -> Contributions
     ensures { λ r. ⌜ ContributionsOf h excluded expected r ⌝ }
@@ -61,19 +86,19 @@ pub fn work_out(h: Hour, excluded: bool, expected: Expected) -> Contributions
         return refused_by(Found::Fault(check));
     }
     let tasks = prepare::tasks_of(h, excluded);
-    let w = walk::walk(tasks, h.n, h.da, h.rt);
-    let found = w.found;
-    if let Found::Fault(check) = found {
+    worked_out(tasks, h.n, h.da, h.rt)
+}
+
+// The same of an internal controllable line's hour, by checks 1 to 5 and 7.
+pub fn work_out_icl(h: IclHour, excluded: bool, expected: Expected) -> Contributions
+    ensures { λ r. ⌜ IclContributionsOf h excluded expected r ⌝ }
+{
+    let fault = checks::icl_fault(h, expected);
+    if let Found::Fault(check) = fault {
         return refused_by(Found::Fault(check));
     }
-    let parts = w.parts;
-    let n = h.n;
-    let sum = sum_of(parts, n);
-    Contributions {
-        found: Found::Nothing,
-        parts,
-        sum,
-    }
+    let tasks = controllable::tasks_of(h, excluded);
+    worked_out(tasks, h.n, h.da, h.rt)
 }
 
 // What the block at place k gives to an import's day of so many hours: the sum of its counting intervals, or 0 where that is below 0.

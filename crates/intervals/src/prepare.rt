@@ -7,9 +7,8 @@ ghost use Rattle.tariff.specs.Sheet.{aheadInRange, intervalInRange};
 ghost use Rattle.tariff.specs.Contributions.{capped};
 ghost use Rattle.tariff.specs.Reply.{clear};
 ghost use Rattle.tariff.specs.Hour.{form, range};
-ghost use Rattle.intervals.specs.Task.{idleTask, taskOf, asked, TasksOf};
+ghost use Rattle.intervals.specs.Task.{taskOf, asked, TasksOf};
 use crate::others;
-use crate::steps::Task;
 use crate::sums;
 use tariff::Check;
 use tariff::DayAhead;
@@ -18,8 +17,7 @@ use tariff::Grains;
 use tariff::Hour;
 use tariff::Interval;
 use tariff::Kw;
-use tariff::Price;
-use tariff::Seconds;
+use tasks::Task;
 
 // Output above the schedule and its compensable overgeneration is not counted, where the schedule is above 0.
 pub fn capped_output(live: Kw, ae: Kw, co: Kw) -> Kw
@@ -33,33 +31,17 @@ pub fn capped_output(live: Kw, ae: Kw, co: Kw) -> Kw
     }
 }
 
-// Nothing to price and nothing to add: what a lagging interval asks, and one that a check stops.
-pub fn idle(stop: Found) -> Task
-    ensures { λ r. ⌜ r ≡ idleTask stop ⌝ }
-{
-    Task {
-        stop,
-        lower: false,
-        from: Kw(0),
-        limit: Kw(0),
-        pen: Price(0),
-        s: Seconds(0),
-        beside: Grains(0),
-        others: Grains(0),
-    }
-}
-
 // What an interval asks: nothing if it lags (25.4), else its derate, and then the stretch between D and its limit.
 pub fn task_of(a: DayAhead, v: Interval, place: usize) -> Task
     requires { ⌜ (aheadInRange a ≡ true) × (intervalInRange v ≡ true) ⌝ }
     ensures { λ r. ⌜ r ≡ taskOf a v place ⌝ }
 {
     if limits::lags(v) {
-        return idle(Found::Nothing);
+        return tasks::idle(Found::Nothing);
     }
     let q = derate::derate_of(a, v);
     if q.exceeds {
-        return idle(Found::Fault(Check::Derate(place)));
+        return tasks::idle(Found::Fault(Check::Derate(place)));
     }
     let schedules = q.schedules;
     let from = schedules[0];
@@ -86,7 +68,7 @@ pub fn tasks_of(h: Hour, excluded: bool) -> [Task; 30]
     requires { ⌜ ((form h ≡ clear) × (expected : Expected) × (range h expected ≡ clear)) ⌝ }
     ensures { λ r. ⌜ TasksOf (asked h excluded) (h .n) r ⌝ }
 {
-    let mut tasks = [idle(Found::Nothing); 30];
+    let mut tasks = [tasks::idle(Found::Nothing); 30];
     if excluded {
         return tasks;
     }

@@ -7,7 +7,6 @@ ghost use Rattle.tariff.specs.Contributions.{curveIn};
 ghost use Rattle.intervals.specs.Task.{runFrom, runOn, signedCost, energyPart, finished, outcomesOf, Fitting, Walkable};
 ghost use Rattle.intervals.specs.Walk.{WalkedTo};
 use crate::steps::Run;
-use crate::steps::Task;
 use crate::steps::Walked;
 use crate::sums;
 use tariff::Check;
@@ -17,6 +16,7 @@ use tariff::Grains;
 use tariff::Kw;
 use tariff::Price;
 use tariff::Seconds;
+use tasks::Task;
 
 pub fn curve_for(lower: bool, da: Curve, rt: Curve) -> Curve
     ensures { λ r. ⌜ r ≡ curveIn lower da rt ⌝ }

@@ -55,12 +55,25 @@ headerKeys =
     bytes "form=" ∷ bytes "hours=" ∷ bytes "unit=" ∷ bytes "rtc="
     ∷ bytes "cat=" ∷ bytes "x1=" ∷ bytes "x2=" ∷ bytes "x3=" ∷ bytes "x4=" ∷ bytes "x5=" ∷ bytes "x6=" ∷ []
 
+-- ---- an internal controllable line: its header, which has `hours` as a day's between these two, line 1 of its blocks, whose curve lines are an
+-- hour block's, and their interval lines
+
+abbrev pub iclHeaderKeys : List (List ℕ)
+iclHeaderKeys = bytes "line=" ∷ bytes "mark=" ∷ []
+
+abbrev pub iclHourKeys : List (List ℕ)
+iclHourKeys = bytes "hour=" ∷ bytes " dasi=" ∷ bytes " dasw=" ∷ []
+
+abbrev pub iclIntervalKeys : List (List ℕ)
+iclIntervalKeys = bytes "s=" ∷ bytes " en=" ∷ bytes " aei=" ∷ bytes " aew=" ∷ bytes " pin=" ∷ bytes " pout=" ∷ []
+
 -- ---- the table
 
 abbrev pub keys : List (List ℕ)
 keys =
     aheadKeys ++ daKeys ++ rtKeys ++ pairKeys ++ energyKeys ++ reserveKeys ++ regulationKeys
     ++ importKeys ++ importHourKeys ++ curtailedKeys ++ headerKeys
+    ++ iclHeaderKeys ++ iclHourKeys ++ iclIntervalKeys
 
 -- key k. A number past the table's has the empty key
 abbrev pub keyOf : ℕ → List ℕ
@@ -135,6 +148,19 @@ X5-LINE = 58
 abbrev pub X6-LINE : ℕ
 X6-LINE = 59
 
+-- those of an internal controllable line, and the other kinds of its lines
+abbrev pub LINE-LINE : ℕ
+LINE-LINE = 60
+
+abbrev pub MARK-LINE : ℕ
+MARK-LINE = 61
+
+abbrev pub ICL-HOUR : ℕ
+ICL-HOUR = 62
+
+abbrev pub ICL-INTERVAL : ℕ
+ICL-INTERVAL = 65
+
 its-lines : (keyOf FORM-LINE ≡ bytes "form=")
     × (keyOf HOURS-LINE ≡ bytes "hours=")
     × (keyOf UNIT-LINE ≡ bytes "unit=")
@@ -146,11 +172,13 @@ its-lines : (keyOf FORM-LINE ≡ bytes "form=")
     × (keyOf X4-LINE ≡ bytes "x4=")
     × (keyOf X5-LINE ≡ bytes "x5=")
     × (keyOf X6-LINE ≡ bytes "x6=")
-its-lines = (refl, refl, refl, refl, refl, refl, refl, refl, refl, refl, refl)
+    × (keyOf LINE-LINE ≡ bytes "line=")
+    × (keyOf MARK-LINE ≡ bytes "mark=")
+its-lines = (refl, refl, refl, refl, refl, refl, refl, refl, refl, refl, refl, refl, refl)
 
 -- the count of all keys
 abbrev pub KEYS : ℕ
-KEYS = 60
+KEYS = 71
 
 -- each follows the keys of the kind before it
 places : (DA ≡ AHEAD + length aheadKeys)
@@ -163,9 +191,12 @@ places : (DA ≡ AHEAD + length aheadKeys)
     × (IMPORT-HOUR ≡ IMPORT + length importKeys)
     × (CURTAILED ≡ IMPORT-HOUR + length importHourKeys)
     × (HEADER ≡ CURTAILED + length curtailedKeys)
-    × (KEYS ≡ HEADER + length headerKeys)
+    × (LINE-LINE ≡ HEADER + length headerKeys)
+    × (ICL-HOUR ≡ LINE-LINE + length iclHeaderKeys)
+    × (ICL-INTERVAL ≡ ICL-HOUR + length iclHourKeys)
+    × (KEYS ≡ ICL-INTERVAL + length iclIntervalKeys)
     × (KEYS ≡ length keys)
-places = (refl, refl, refl, refl, refl, refl, refl, refl, refl, refl, refl, refl)
+places = (refl, refl, refl, refl, refl, refl, refl, refl, refl, refl, refl, refl, refl, refl, refl)
 
 -- ---- the one key whose number may be missing, as a minus alone
 

@@ -51,8 +51,16 @@ pub const X4_LINE: usize = 57;
 pub const X5_LINE: usize = 58;
 
 pub const X6_LINE: usize = 59;
+// Of an internal controllable line the two keys of its header that a day's has not, line 1 of its blocks, and their interval lines.
+pub const LINE_LINE: usize = 60;
+
+pub const MARK_LINE: usize = 61;
+
+pub const ICL_HOUR: usize = 62;
+
+pub const ICL_INTERVAL: usize = 65;
 // The count of all keys.
-pub const KEYS: usize = 60;
+pub const KEYS: usize = 71;
 
 // The one key whose number may be missing, `uol`.
 pub const UOL: usize = 23;
@@ -82,8 +90,11 @@ pub fn key_number(s: &[u8], at: usize, k: usize) -> Next
         }
         return table::curtailed_key(s, at, k - CURTAILED);
     }
-    if k < KEYS {
+    if k < LINE_LINE {
         return table::header_key(s, at, k - HEADER);
+    }
+    if k < KEYS {
+        return table::icl_key(s, at, k - LINE_LINE);
     }
     Next::At(at)
 }

@@ -3,7 +3,7 @@
 ghost use mathlib.Core.Path.{_≡_};
 ghost use Prim.Native.Nat.{_+_, _<_};
 ghost use Rattle.text.specs.Text.{keyAt};
-ghost use Rattle.keys.specs.Keys.{AHEAD, DA, INTERVAL, RESERVES, REGULATION, IMPORT, CURTAILED, HEADER, keyOf};
+ghost use Rattle.keys.specs.Keys.{AHEAD, DA, INTERVAL, RESERVES, REGULATION, IMPORT, CURTAILED, HEADER, LINE-LINE, keyOf};
 use text::Next;
 
 // Line 1 of an hour block.
@@ -135,5 +135,25 @@ pub fn header_key(s: &[u8], at: usize, k: usize) -> Next
         8 => text::key_at(s, at, b"x4="),
         9 => text::key_at(s, at, b"x5="),
         _ => text::key_at(s, at, b"x6="),
+    }
+}
+
+// An internal controllable line: the keys of its header, of line 1 of its blocks, and of their interval lines.
+pub fn icl_key(s: &[u8], at: usize, k: usize) -> Next
+    requires { ⌜ k < 11 ⌝ }
+    ensures { λ r. ⌜ r ≡ keyAt (keyOf (LINE-LINE + k)) (now (s .entry)) at ⌝ }
+{
+    match k {
+        0 => text::key_at(s, at, b"line="),
+        1 => text::key_at(s, at, b"mark="),
+        2 => text::key_at(s, at, b"hour="),
+        3 => text::key_at(s, at, b" dasi="),
+        4 => text::key_at(s, at, b" dasw="),
+        5 => text::key_at(s, at, b"s="),
+        6 => text::key_at(s, at, b" en="),
+        7 => text::key_at(s, at, b" aei="),
+        8 => text::key_at(s, at, b" aew="),
+        9 => text::key_at(s, at, b" pin="),
+        _ => text::key_at(s, at, b" pout="),
     }
 }

@@ -1,5 +1,5 @@
 -- The theorems of the definitions of a day: what its hours are answered, the marks, demand 3, the total, and bounded memory. Those of a
--- `Front` hold of every sheet's, `frontOf s`.
+-- `Front` hold of every sheet's, `frontOf s`; where no kind is named they hold of every kind's.
 use mathlib.Core.Path.{_≡_, refl, sym, ap, _∙_, subst}
 use mathlib.Core.Bool.{true, false}
 use mathlib.Core.List.{List, [], _∷_, _++_}
@@ -15,7 +15,8 @@ use Rattle.tariff.specs.Sheet.{LONGEST-DAY}
 use Rattle.tariff.specs.Reply.{paid, refused, ORDER, DERATE, REACH, clear, fault}
 use Rattle.tariff.specs.Eligible.{near, excluded}
 use Rattle.tariff.specs.Outcome.{replyBy}
-use Rattle.tariff.specs.Hour.{range, order, reply}
+use Rattle.tariff.specs.Checks.{rangeIn, orderIn}
+use Rattle.tariff.specs.Hour.{range, reply}
 use Rattle.tariff.specs.Demand.{FirstUnpriced, UnpricedBeforeDerate, ExceededBeforeReach, Lawful, WholeHour, Extends}
 use Rattle.tariff.specs.Total.{total, noTotal, totalOf, Pays, paidCents}
 use Rattle.tariff.proofs.Demands.{order-exactly-when-another-hour}
@@ -28,6 +29,7 @@ use Rattle.lines.specs.Squeezed.{squeezed}
 use Rattle.intake.specs.Intake.{keptOf, atFirst}
 use Rattle.blocks.specs.Block.{blockOf, read}
 use Rattle.sheet.specs.Settle.{replyTo}
+use Rattle.sheet.specs.Apart.{CurvesApart}
 use Rattle.sheet.proofs.ReadHours.{read-sound}
 use Rattle.sheet.proofs.BlockDemands.{
   block-reach-exactly-when-unpriced,
@@ -35,10 +37,11 @@ use Rattle.sheet.proofs.BlockDemands.{
   block-refused-for-derate-exactly-when-some-reduction-exceeds,
 }
 use Rattle.header.specs.Header.{countOf, marksOf}
-use Rattle.ledger.specs.Day.{Front, frontOf, dayReply, surplus, dayTotal}
+use Rattle.ledger.specs.Day.{generatorAnswer, Front, frontOf, dayReply, surplus, dayTotal}
 use Rattle.ledger.specs.Demand.{SettledAlike, BlocksApart, PricedAlike, DaysApart, BothRead}
 use Rattle.ledger.proofs.HourOfDay.{refused-hour, hour-clear, own-block, read-reply, nothing-left}
-use Rattle.ledger.proofs.SheetFront.{marks-settle, front-append, kept-settled, append-settled}
+use Rattle.ledger.proofs.SheetFront.{marks-settle, front-append, generator-decides, sheet-laws}
+use Rattle.ledger.proofs.AnyFront.{kept-settled, append-settled}
 use Rattle.ledger.proofs.BlocksApart.{blocks-alike, blocks-extended, blocks-added}
 use Rattle.ledger.proofs.TwoDays.{one-hour, other-hour, hours-settled}
 
@@ -60,22 +63,24 @@ a-refused-header-refuses-every-hour = refused-hour
 -- place as the expected hour, and with any lent row of 30 entries or more.
 pub an-hour-of-a-day-is-its-blocks :
     (f : Front)
+    → f .answer ≡ generatorAnswer
     → f .fault ≡ clear
     → (k room : ℕ)
     → 30 ≤ room
     → dayReply f k ≡ replyTo (blockOf (piece k (f .body))) (f .isExcluded k) (Says (pos k) (f .hours)) room
-an-hour-of-a-day-is-its-blocks f e k room h = hour-clear f e k ∙ own-block f k room h
+an-hour-of-a-day-is-its-blocks f kind e k room h = hour-clear f e k ∙ own-block f kind k room h
 
 -- ORDER is given exactly when block k says another hour than k and its numbers are in their ranges, at 1.
 pub another-hour-is-order :
     (f : Front)
+    → f .answer ≡ generatorAnswer
     → f .fault ≡ clear
     → (k : ℕ) (h : Hour)
     → blockOf (piece k (f .body)) ≡ read h
     → (place : ℕ)
     → (dayReply f k ≡ refused ORDER place) ↔ ((range h (Says (pos k) (f .hours)) ≡ clear) × (place ≡ 1) × (h .hour ≡ pos k → ⊥))
-another-hour-is-order f e k h x place =
-    let own = read-reply f e k h x in
+another-hour-is-order f kind e k h x place =
+    let own = read-reply f kind e k h x in
     let it = order-exactly-when-another-hour h (f .isExcluded k) (Says (pos k) (f .hours)) 30 place in (
       λ d. let w = it .0 (sym own ∙ d) in (w .1, w .2, λ q. w .3 .other (let a = w .3 .asked in cc)),
       λ w. own ∙ it .1 (read-sound _ h x .form, w .0, w .1, record { hour = pos k; hours = f .hours; asked = refl; other = w .2 }),
@@ -84,6 +89,7 @@ another-hour-is-order f e k h x place =
 -- A block that says the hour of its place is answered as where any hour may be said.
 pub its-own-hour-is-as-any :
     (f : Front)
+    → f .answer ≡ generatorAnswer
     → f .fault ≡ clear
     → f .hours ≤ LONGEST-DAY
     → (k : ℕ) (h : Hour)
@@ -91,9 +97,9 @@ pub its-own-hour-is-as-any :
     → blockOf (piece k (f .body)) ≡ read h
     → h .hour ≡ pos k
     → dayReply f k ≡ reply h (f .isExcluded k) Any 30
-unfolding replyBy range order
-its-own-hour-is-as-any f e few k h u x own =
-    read-reply f e k h x ∙ rw (true-eqZ (h .hour) (pos k) own, own, own-hour (f .hours) k u few, own-hour LONGEST-DAY k (omega arith) (omega arith))
+unfolding replyBy rangeIn orderIn
+its-own-hour-is-as-any f kind e few k h u x own =
+    read-reply f kind e k h x ∙ rw (true-eqZ (h .hour) (pos k) own, own, own-hour (f .hours) k u few, own-hour LONGEST-DAY k (omega arith) (omega arith))
 
 -- ---- the marks
 
@@ -134,36 +140,39 @@ without-rtc-x5-and-x6-move-no-hour s t one other hours body off off′ alike k =
 -- has one, and where no DERATE stands at or before it.
 pub reach-of-an-hour-exactly-when-unpriced :
     (f : Front)
+    → f .answer ≡ generatorAnswer
     → f .fault ≡ clear
     → (k i : ℕ) (h : Hour)
     → blockOf (piece k (f .body)) ≡ read h
     → (dayReply f k ≡ refused REACH (i + 1)) ↔ (WholeHour h (Says (pos k) (f .hours)) × FirstUnpriced h (f .isExcluded k) i)
-reach-of-an-hour-exactly-when-unpriced f e k i h x =
-    rw (an-hour-of-a-day-is-its-blocks f e k 30 (omega arith))
+reach-of-an-hour-exactly-when-unpriced f kind e k i h x =
+    rw (an-hour-of-a-day-is-its-blocks f kind e k 30 (omega arith))
     (block-reach-exactly-when-unpriced (piece k (f .body)) h (f .isExcluded k) (Says (pos k) (f .hours)) 30 i x)
 
 -- So an hour of a day is refused for reach exactly when no check from 1 to 5 refuses it, a kilowatt that some interval must price has no
 -- price, and no derate refusal falls in that interval or before it.
 pub an-hour-is-refused-for-reach-exactly-when-some-kilowatt-is-unpriced :
     (f : Front)
+    → f .answer ≡ generatorAnswer
     → f .fault ≡ clear
     → (k : ℕ) (h : Hour)
     → blockOf (piece k (f .body)) ≡ read h
     → ((place : ℕ) × (dayReply f k ≡ refused REACH place)) ↔ (WholeHour h (Says (pos k) (f .hours)) × UnpricedBeforeDerate h (f .isExcluded k))
-an-hour-is-refused-for-reach-exactly-when-some-kilowatt-is-unpriced f e k h x =
-    rw (an-hour-of-a-day-is-its-blocks f e k 30 (omega arith))
+an-hour-is-refused-for-reach-exactly-when-some-kilowatt-is-unpriced f kind e k h x =
+    rw (an-hour-of-a-day-is-its-blocks f kind e k 30 (omega arith))
     (block-refused-for-reach-exactly-when-some-kilowatt-is-unpriced (piece k (f .body)) h (f .isExcluded k) (Says (pos k) (f .hours)) 30 x)
 
 -- And for derate exactly when no check from 1 to 5 refuses it, the reduction of some eligible interval exceeds the room for it, and no
 -- reach refusal falls before that interval.
 pub an-hour-is-refused-for-derate-exactly-when-some-reduction-exceeds :
     (f : Front)
+    → f .answer ≡ generatorAnswer
     → f .fault ≡ clear
     → (k : ℕ) (h : Hour)
     → blockOf (piece k (f .body)) ≡ read h
     → ((place : ℕ) × (dayReply f k ≡ refused DERATE place)) ↔ (WholeHour h (Says (pos k) (f .hours)) × ExceededBeforeReach h (f .isExcluded k))
-an-hour-is-refused-for-derate-exactly-when-some-reduction-exceeds f e k h x =
-    rw (an-hour-of-a-day-is-its-blocks f e k 30 (omega arith))
+an-hour-is-refused-for-derate-exactly-when-some-reduction-exceeds f kind e k h x =
+    rw (an-hour-of-a-day-is-its-blocks f kind e k 30 (omega arith))
     (block-refused-for-derate-exactly-when-some-reduction-exceeds (piece k (f .body)) h (f .isExcluded k) (Says (pos k) (f .hours)) 30 x)
 
 -- Two sheets with one header, whose blocks differ in their curve lines only, are two such days.
@@ -177,7 +186,7 @@ pub sheets-with-one-header-are-apart :
 sheets-with-one-header-are-apart head body other e alone blocks rest =
     subst (λ f. DaysApart f (frontOf (head ++ other))) (sym (front-append head e alone body))
     (subst (DaysApart _) (sym (front-append head e alone other))
-    (record { one-read = refl; other-read = refl; hours = refl; excluded = λ k u. refl; blocks = blocks; surplus = rest }))
+    (record { one-kind = refl; other-kind = refl; one-read = refl; other-read = refl; hours = refl; excluded = λ k u. refl; blocks = blocks; surplus = rest }))
 
 -- Only the prices of the kilowatts between D and the limit matter: two days whose blocks differ in their curve lines only, and whose hours
 -- are the same, or refused by no check from 1 to 4 and with prices that agree on every kilowatt that must be priced, have the same
@@ -187,7 +196,7 @@ pub only-needed-prices-of-a-day-matter :
     → DaysApart f g
     → BothRead f g (λ k h j. PricedAlike h j (f .isExcluded k) (Says (pos k) (f .hours)))
     → SettledAlike f g
-only-needed-prices-of-a-day-matter f g d alike = hours-settled f g d (λ k u. blocks-alike _ _ _ _ (d .blocks k u) (alike k u))
+only-needed-prices-of-a-day-matter f g d alike = hours-settled generatorAnswer generator-decides CurvesApart f g d (λ k u. blocks-alike _ _ _ _ (d .blocks k u) (alike k u))
 
 -- Adding curve to a paid hour of a day never moves a cent, where the longer curves break no rule of checks 1 to 4: with every price that
 -- its curves had, and perhaps more, it pays the same.
@@ -206,7 +215,8 @@ pub adding-curve-to-an-hour-changes-nothing :
     → dayReply f k ≡ paid sum cents
     → dayReply g k ≡ paid sum cents
 adding-curve-to-an-hour-changes-nothing f g d k u h j x y c da rt sum cents p =
-    other-hour f g d k u ∙ blocks-extended _ _ _ _ (d .blocks k u) h j x y sum cents c da rt (sym (one-hour f g d k u) ∙ p)
+    other-hour generatorAnswer generator-decides CurvesApart f g d k u
+    ∙ blocks-extended _ _ _ _ (d .blocks k u) h j x y sum cents (c, da, rt) (sym (one-hour generatorAnswer generator-decides CurvesApart f g d k u) ∙ p)
 
 -- So adding curve to any hours of a day whose hours are all paid changes no answer and not the total.
 pub adding-curve-to-a-day-changes-nothing :
@@ -216,7 +226,8 @@ pub adding-curve-to-a-day-changes-nothing :
     → BothRead f g (λ k h j. Lawful j (Says (pos k) (f .hours)) × Extends (h .da) (j .da) × Extends (h .rt) (j .rt))
     → SettledAlike f g
 adding-curve-to-a-day-changes-nothing f g d pays longer =
-    hours-settled f g d (λ k u. blocks-added _ _ _ _ (d .blocks k u) (rw (one-hour f g d k u) at (pays k u)) (longer k u))
+    hours-settled generatorAnswer generator-decides CurvesApart f g d
+    (λ k u. blocks-added _ _ _ _ (d .blocks k u) (rw (one-hour generatorAnswer generator-decides CurvesApart f g d k u) at (pays k u)) (longer k u))
 
 -- ---- the total
 
@@ -249,11 +260,11 @@ pub a-kept-sheet-is-settled-alike :
     (s : List ℕ) (pieces : ℕ)
     → frontOf s .hours < pieces
     → SettledAlike (frontOf (keptOf (atFirst pieces) (squeezed s))) (frontOf s)
-a-kept-sheet-is-settled-alike = kept-settled
+a-kept-sheet-is-settled-alike = kept-settled frontOf generatorAnswer sheet-laws
 
 -- Where a byte stands behind the last block, those that follow it settle nothing: a program may stop reading there.
 pub behind-a-surplus-byte-nothing-settles :
     (s t : List ℕ)
     → isSome (restAfter (suc (frontOf s .hours)) s) ≡ true
     → SettledAlike (frontOf (s ++ t)) (frontOf s)
-behind-a-surplus-byte-nothing-settles = append-settled
+behind-a-surplus-byte-nothing-settles = append-settled frontOf generatorAnswer sheet-laws

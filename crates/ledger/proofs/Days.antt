@@ -17,9 +17,8 @@ use Rattle.lines.specs.Line.{filled}
 use Rattle.lines.proofs.Fill.{filled-same, fill-rest}
 use Rattle.marks.specs.Word.{word}
 use Rattle.marks.proofs.Rows.{marked-word}
-use Rattle.blocks.specs.Block.{blockOf}
 use Rattle.ledger.specs.declared.hours.Settled.{Settled}
-use Rattle.ledger.specs.Day.{Front, dayReply, dayTotal}
+use Rattle.ledger.specs.Day.{BlockAnswer, Front, dayReply, dayTotal}
 use Rattle.ledger.specs.Demand.{SettledAlike}
 use Rattle.ledger.specs.Walk.{wordFront, absent, heldReplies, SettledTo}
 use Rattle.ledger.proofs.HourOfDay.{refused-hour, no-total, hour-same, settled-alike}
@@ -39,15 +38,16 @@ module _ (f : Front) where
     total-withheld u = sym (no-total f _ _ e u)
 
   -- ---- a front that is read: the word of its excluded hours and the text behind it are settled as it is
-  module _ (e : f .fault ≡ clear) (w : ℕ) (says : w ≡ word (f .hours) (f .isExcluded)) (b : List ℕ) (body : b ≡ f .body) where
+  module _ (answer : BlockAnswer) (kind : answer ≡ f .answer)
+      (e : f .fault ≡ clear) (w : ℕ) (says : w ≡ word (f .hours) (f .isExcluded)) (b : List ℕ) (body : b ≡ f .body) where
     abbrev walked : Front
-    walked = wordFront w b (f .hours)
+    walked = wordFront answer w b (f .hours)
 
     alike : SettledAlike walked f
     alike =
         settled-alike walked f (sym e) refl
         (λ k u. hour-same walked f k (sym e) refl (rw says (marked-word (f .isExcluded) (f .hours) k u))
-        (ap (λ (t : List ℕ). blockOf (restAfter k t)) body))
+        (λ i. kind i (restAfter k (body i))))
         (ap (λ (t : List ℕ). isSome (restAfter (f .hours) t)) body)
 
     module _ (r : Settled) (s : SettledTo walked r) where

@@ -1,4 +1,4 @@
--- No two different replies satisfy the contract of the day call.
+-- No two different replies satisfy the contract of a day call.
 use mathlib.Core.Path.{_≡_, refl, sym, ap, _∙_}
 use mathlib.Core.List.{List}
 use Prim.Native.Nat.{ℕ}
@@ -12,7 +12,11 @@ use Rattle.tariff.specs.declared.Total.{Total}
 use Rattle.tariff.specs.declared.Total.the-variants.{Of, Withheld}
 use Rattle.tariff.specs.Total.{Sum, total, noTotal, toldTotal}
 use Rattle.tariff.proofs.HourAnswers.{answers-one}
+use Rattle.ledger.specs.Day.{Front, frontOf}
+use Rattle.ledger.specs.IclDay.{iclFrontOf}
+use Rattle.ledger.specs.Walk.{DayOf}
 use Rattle.ledger.proofs.settle_day.Reads as settle-day
+use Rattle.ledger.proofs.settle_icl_day.Reads as settle-icl-day
 
 abbrev totalTold : Sum → Total
 totalTold (total c) = Of (cents c)
@@ -28,10 +32,23 @@ total-one t u e = sym (total-back t) ∙ ap totalTold e ∙ total-back u
 abbrev day : Found → (count : ℕ) → List HourAnswer → Total → Day
 day header count hours t = record { header = header; count = count; hours = hours; total = t }
 
-pub one-settle-day : OneReply settle-day.Post
-one-settle-day κ a r s u v p q = λ i.
+-- two days of one front
+one-day : (f : Front) (r s : Day) → DayOf f r → DayOf f s → r ≡ s
+one-day f r s p q = λ i.
     day
-    (one-finding (r .header) (s .header) _ (p .0) (q .0) i)
-    ((p .1 .0 ∙ sym (q .1 .0)) i)
-    (answers-one (r .hours) (s .hours) (p .1 .1 .0 ∙ sym (q .1 .1 .0)) i)
-    (total-one (r .total) (s .total) (p .1 .1 .1 ∙ sym (q .1 .1 .1)) i)
+    (one-finding (r .header) (s .header) _ (p .header) (q .header) i)
+    ((p .count ∙ sym (q .count)) i)
+    (answers-one (r .hours) (s .hours) (p .hours ∙ sym (q .hours)) i)
+    (total-one (r .total) (s .total) (p .total ∙ sym (q .total)) i)
+
+pub one-settle-day : OneReply settle-day.Post
+one-settle-day κ a r s u v p q =
+    one-day (frontOf (a .0 .now)) r s
+    (record { header = p .0; count = p .1 .0; hours = p .1 .1 .0; total = p .1 .1 .1 })
+    (record { header = q .0; count = q .1 .0; hours = q .1 .1 .0; total = q .1 .1 .1 })
+
+pub one-settle-icl-day : OneReply settle-icl-day.Post
+one-settle-icl-day κ a r s u v p q =
+    one-day (iclFrontOf (a .0 .now)) r s
+    (record { header = p .0; count = p .1 .0; hours = p .1 .1 .0; total = p .1 .1 .1 })
+    (record { header = q .0; count = q .1 .0; hours = q .1 .1 .0; total = q .1 .1 .1 })

@@ -19,6 +19,7 @@ use Rattle.tariff.specs.Units.{cents, centsOf}
 use Rattle.tariff.specs.Sheet.{LONGEST-DAY}
 use Rattle.tariff.specs.Reply.{Reply, Verdict, clear, fault, otherwise, told}
 use Rattle.tariff.proofs.Demands.{rounded-once}
+use Rattle.tariff.proofs.IclDemands.{icl-paid-exactly-when-nothing-refuses}
 use Rattle.lines.specs.Cut.{behind}
 use Rattle.lines.specs.Pieces.{restAfter}
 use Rattle.lines.specs.Line.{filled}
@@ -26,12 +27,18 @@ use Rattle.lines.proofs.Fill.{fill-next}
 use Rattle.lines.proofs.Pieces.{Behind, lent-to-the-end, some-left, none-left}
 use Rattle.blocks.specs.Block.{Block, broken, read, blockOf}
 use Rattle.sheet.specs.Settle.{replyTo}
+use Rattle.iclblocks.specs.IclBlock as icl
+use Rattle.iclblocks.specs.IclBlock.{IclBlock, iclBlockOf}
+use Rattle.iclsheet.specs.IclSettle.{iclReplyTo}
 use Rattle.tariff.specs.declared.HourAnswer.{HourAnswer}
 use Rattle.tariff.specs.declared.Total.{Total}
 use Rattle.tariff.specs.declared.Total.the-variants.{Of, Withheld}
 use Rattle.tariff.specs.Total.{sumOf, totalOf, toldTotal, toldAll}
-use Rattle.ledger.specs.Day.{Front, hourReply, dayReply}
-use Rattle.ledger.specs.Walk.{Rounded, UpToCents, Added, absent, heldReplies, SettledTo}
+use Rattle.ledger.specs.Day.{BlockAnswer, generatorAnswer, Front, hourReply, dayReply}
+use Rattle.ledger.specs.declared.hours.Kind.{Kind}
+use Rattle.ledger.specs.declared.hours.Kind.the-variants.{Generator, Icl}
+use Rattle.ledger.specs.IclDay.{iclAnswer}
+use Rattle.ledger.specs.Walk.{answerOf, Rounded, UpToCents, Added, absent, heldReplies, SettledTo}
 use Rattle.tariff.proofs.HourAnswers.{hourAnswer, told-set, told-same}
 use Rattle.tariff.proofs.Totals.{sum-next}
 use Rattle.ledger.proofs.Totals.{nothing-most}
@@ -39,19 +46,40 @@ use Rattle.ledger.proofs.Totals.{nothing-most}
 -- ---- the reply to a block
 
 -- a block that is lent from its place to the text's end
-pub lent-reply : (s : List ℕ) (at k : ℕ) (isExcluded : Bool) (hours : ℕ) (a : Answer) → k < LONGEST-DAY
-    → told a ≡ replyTo (blockOf (take (length s - at) (drop at s))) isExcluded (Says (toZ w64 k) hours) 30
-    → told a ≡ replyTo (blockOf (drop at s)) isExcluded (Says (pos k) hours) 30
-lent-reply s at k isExcluded hours a h e = e ∙ rw (lent-to-the-end s at, toZ-pos w64 k (omega arith))
+pub lent-reply : (answer : BlockAnswer) (s : List ℕ) (at k : ℕ) (isExcluded : Bool) (hours : ℕ) (a : Answer) → k < LONGEST-DAY
+    → told a ≡ answer (take (length s - at) (drop at s)) isExcluded (Says (toZ w64 k) hours)
+    → told a ≡ answer (drop at s) isExcluded (Says (pos k) hours)
+lent-reply answer s at k isExcluded hours a h e = e ∙ rw (lent-to-the-end s at, toZ-pos w64 k (omega arith))
 
-reply-rounded : (b : Block) (isExcluded : Bool) (expected : Expected) (room : ℕ) → Rounded (replyTo b isExcluded expected room)
-reply-rounded (broken line) isExcluded expected room = record { cents = λ sum cents e. impossible cc }
-reply-rounded (read h) isExcluded expected room =
-    record { cents = λ sum cents e. let p = rounded-once h isExcluded expected room sum cents e in p .1 ∙ ap centsOf (sym (p .0)) }
+-- whatever a block is answered, its cents are those of its sum
+abbrev pub AllRounded : BlockAnswer → Type 0
+AllRounded answer = (s : List ℕ) (isExcluded : Bool) (expected : Expected) → Rounded (answer s isExcluded expected)
 
-pub hour-rounded : (f : Front) (k : ℕ) (a : Answer) → told a ≡ dayReply f k → Rounded (told a)
+generator-rounded : AllRounded generatorAnswer
+generator-rounded s isExcluded expected = go (blockOf s)
+  where
+    go : (b : Block) → Rounded (replyTo b isExcluded expected 30)
+    go (broken line) = record { cents = λ sum cents e. impossible cc }
+    go (read h) =
+        record { cents = λ sum cents e. let p = rounded-once h isExcluded expected 30 sum cents e in p .1 ∙ ap centsOf (sym (p .0)) }
+
+icl-rounded : AllRounded iclAnswer
+icl-rounded s isExcluded expected = go (iclBlockOf s)
+  where
+    go : (b : IclBlock) → Rounded (iclReplyTo b isExcluded expected 30)
+    go (icl.broken line) = record { cents = λ sum cents e. impossible cc }
+    go (icl.read h) =
+        record {
+          cents = λ sum cents e. let p = icl-paid-exactly-when-nothing-refuses h isExcluded expected 30 sum cents .0 e in p .2 ∙ ap centsOf (sym (p .1));
+        }
+
+pub all-rounded : (kind : Kind) → AllRounded (answerOf kind)
+all-rounded Generator = generator-rounded
+all-rounded Icl = icl-rounded
+
+pub hour-rounded : (f : Front) → AllRounded (f .answer) → (k : ℕ) (a : Answer) → told a ≡ dayReply f k → Rounded (told a)
 unfolding dayReply hourReply
-hour-rounded f k a e = rw e (go (f .fault) (reply-rounded (blockOf (restAfter k (f .body))) (f .isExcluded k) (Says (pos k) (f .hours)) 30))
+hour-rounded f all k a e = rw e (go (f .fault) (all (restAfter k (f .body)) (f .isExcluded k) (Says (pos k) (f .hours))))
   where
     go : {r : Reply} (v : Verdict) → Rounded r → Rounded (otherwise v r)
     go clear o = o
@@ -76,7 +104,7 @@ module _ (s : List ℕ) (f : Front) where
   module _ (answers : List HourAnswer) (t : Total) (i k : ℕ) (g : Gone answers t i k) where
     -- the block that begins at i is block k
     pub block-reply : (a : Answer) (isExcluded : Bool) → f .fault ≡ clear → isExcluded ≡ f .isExcluded k
-        → told a ≡ replyTo (blockOf (drop i s)) isExcluded (Says (pos k) (f .hours)) 30 → told a ≡ dayReply f k
+        → told a ≡ f .answer (drop i s) isExcluded (Says (pos k) (f .hours)) → told a ≡ dayReply f k
     unfolding dayReply hourReply
     block-reply a isExcluded c e q = q ∙ rw (g .rest, e, c)
 

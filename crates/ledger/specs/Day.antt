@@ -5,6 +5,7 @@ use Prim.Native.Nat.{ℕ}
 use lib.IntN.{pos}
 use lib.ListN.{drop}
 use Rattle.exact.specs.Whole.{upTo}
+use Rattle.tariff.specs.declared.Expected.{Expected}
 use Rattle.tariff.specs.declared.Expected.the-variants.{Says}
 use Rattle.tariff.specs.Reply.{Reply, Verdict, otherwise}
 use Rattle.tariff.specs.Total.{Sum, totalOf}
@@ -14,26 +15,42 @@ use Rattle.blocks.specs.Block.{blockOf}
 use Rattle.sheet.specs.Settle.{replyTo}
 use Rattle.header.specs.Header.{hoursOf, headerFault, marksUnder, nextUnder}
 
--- ---- the front: a fault or none, how many hours the day has, which of them are excluded, and the text of the blocks
+-- ---- how a block is answered: by its text, whether its hour is excluded, and the hour that it has to say
+
+abbrev pub BlockAnswer : Type 0
+BlockAnswer = (block : List ℕ) → (isExcluded : Bool) → Expected → Reply
+
+-- a generator's: no block has more intervals than the lent row has room for
+abbrev pub generatorAnswer : BlockAnswer
+generatorAnswer s isExcluded expected = replyTo (blockOf s) isExcluded expected 30
+
+-- ---- the front: a fault or none, how many hours the day has, which of them are excluded, the text of the blocks, and how each is answered
 
 pub record Front : Type 0 where
   pub fault : Verdict
   pub hours : ℕ
   pub isExcluded : ℕ → Bool
   pub body : List ℕ
+  pub answer : BlockAnswer
 
 -- a sheet's front is its header
 abbrev pub frontOf : List ℕ → Front
 frontOf s =
     let v = headerFault s in
-    record { fault = v; hours = hoursOf s; isExcluded = excluded (hoursOf s) (marksUnder v s); body = drop (nextUnder v s) s }
+    record {
+      fault = v;
+      hours = hoursOf s;
+      isExcluded = excluded (hoursOf s) (marksUnder v s);
+      body = drop (nextUnder v s) s;
+      answer = generatorAnswer;
+    }
 
 -- ---- the answers
 
 -- the blocks are cut at their empty lines: a block is read up to its own, and an hour without a block is an empty block. Block k has to
--- say hour k; no block has more intervals than the lent row has room for
+-- say hour k
 unfoldable pub hourReply : Front → ℕ → Reply
-hourReply f k = replyTo (blockOf (restAfter k (f .body))) (f .isExcluded k) (Says (pos k) (f .hours)) 30
+hourReply f k = f .answer (restAfter k (f .body)) (f .isExcluded k) (Says (pos k) (f .hours))
 
 -- a refused front refuses every hour, with its own number and place
 unfoldable pub dayReply : Front → ℕ → Reply

@@ -6,12 +6,14 @@ use Prim.Native.Nat.{ℕ, _<_}
 use lib.IntN.{ℤ}
 use Rattle.tariff.specs.declared.Hour.{Hour}
 use Rattle.tariff.specs.declared.Expected.{Expected}
+use Rattle.tariff.specs.Curve.{Amount}
 use Rattle.tariff.specs.Reply.{clear}
 use Rattle.tariff.specs.Demand.{MustPrice, priceIn, Lawful}
 use Rattle.lines.specs.Pieces.{piece}
-use Rattle.blocks.specs.Block.{blockOf, read}
+use Rattle.curves.specs.Frame.{Framed, read}
+use Rattle.blocks.specs.Block.{blockOf}
 use Rattle.sheet.specs.Apart.{CurvesApart}
-use Rattle.ledger.specs.Day.{Front, dayReply, surplus, dayTotal}
+use Rattle.ledger.specs.Day.{BlockAnswer, generatorAnswer, Front, dayReply, surplus, dayTotal}
 
 -- the same fault or none, the same answers and the same total
 pub record SettledAlike (f g : Front) : Type 0 where
@@ -20,25 +22,41 @@ pub record SettledAlike (f g : Front) : Type 0 where
   pub answers : (k : ℕ) → k < f .hours → dayReply f k ≡ dayReply g k
   pub total : dayTotal f ≡ dayTotal g
 
--- two blocks that are the same, or differ in their curve lines only
-pub data BlocksApart (s t : List ℕ) : Type 0 where
-  same : s ≡ t → BlocksApart s t
-  apart : CurvesApart s t → BlocksApart s t
+-- two blocks that are the same, or apart
+pub data SameOr (Apart : List ℕ → List ℕ → Type 0) (s t : List ℕ) : Type 0 where
+  same : s ≡ t → SameOr Apart s t
+  apart : Apart s t → SameOr Apart s t
 
--- two days that are read, whose fronts exclude the same hours and whose blocks differ in their curve lines only
-pub record DaysApart (f g : Front) : Type 0 where
+-- two days of one kind that are read, whose fronts exclude the same hours and whose blocks are the same or apart
+pub record DaysOf (answer : BlockAnswer) (Apart : List ℕ → List ℕ → Type 0) (f g : Front) : Type 0 where
+  pub one-kind : f .answer ≡ answer
+  pub other-kind : g .answer ≡ answer
   pub one-read : f .fault ≡ clear
   pub other-read : g .fault ≡ clear
   pub hours : f .hours ≡ g .hours
   pub excluded : (k : ℕ) → k < f .hours → f .isExcluded k ≡ g .isExcluded k
-  pub blocks : (k : ℕ) → k < f .hours → BlocksApart (piece k (f .body)) (piece k (g .body))
+  pub blocks : (k : ℕ) → k < f .hours → SameOr Apart (piece k (f .body)) (piece k (g .body))
   pub surplus : surplus f ≡ surplus g
 
 -- what holds of each hour of two days whose blocks are read
-abbrev pub BothRead : (f g : Front) → (ℕ → Hour → Hour → Type 0) → Type 0
-BothRead f g P = (k : ℕ) → k < f .hours → (h j : Hour) → blockOf (piece k (f .body)) ≡ read h → blockOf (piece k (g .body)) ≡ read j → P k h j
+abbrev pub BothReadBy : {H : Type 0} → (List ℕ → Framed H) → (f g : Front) → (ℕ → H → H → Type 0) → Type 0
+BothReadBy {H} blockOf f g P = (k : ℕ) → k < f .hours → (h j : H) → blockOf (piece k (f .body)) ≡ read h → blockOf (piece k (g .body)) ≡ read j → P k h j
 
 -- two hours that are one, or that no check from 1 to 4 refuses and whose prices agree on every kilowatt that must be priced
-pub data PricedAlike (h g : Hour) (isExcluded : Bool) (expected : Expected) : Type 0 where
-  one : h ≡ g → PricedAlike h g isExcluded expected
-  priced : Lawful h expected → Lawful g expected → ((i : ℕ) (k : ℤ) → MustPrice h isExcluded i k → priceIn h i k ≡ priceIn g i k) → PricedAlike h g isExcluded expected
+pub data PricedBy {H : Type 0} (Lawful : H → Type 0) (MustPrice : H → ℕ → ℤ → Type 0) (priceIn : H → ℕ → ℤ → Amount) (h g : H) : Type 0 where
+  one : h ≡ g → PricedBy Lawful MustPrice priceIn h g
+  priced : Lawful h → Lawful g → ((i : ℕ) (k : ℤ) → MustPrice h i k → priceIn h i k ≡ priceIn g i k) → PricedBy Lawful MustPrice priceIn h g
+
+-- ---- a generator's: its blocks are the same, or differ in their curve lines only
+
+abbrev pub BlocksApart : (s t : List ℕ) → Type 0
+BlocksApart = SameOr CurvesApart
+
+abbrev pub DaysApart : (f g : Front) → Type 0
+DaysApart = DaysOf generatorAnswer CurvesApart
+
+abbrev pub BothRead : (f g : Front) → (ℕ → Hour → Hour → Type 0) → Type 0
+BothRead = BothReadBy blockOf
+
+abbrev pub PricedAlike : (h g : Hour) → (isExcluded : Bool) → Expected → Type 0
+PricedAlike h g isExcluded expected = PricedBy (λ x. Lawful x expected) (λ x. MustPrice x isExcluded) priceIn h g

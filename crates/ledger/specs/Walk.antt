@@ -20,7 +20,10 @@ use Rattle.lines.specs.Line.{filled}
 use Rattle.ledger.specs.declared.Day.{Day}
 use Rattle.ledger.specs.declared.front.Front as code
 use Rattle.ledger.specs.declared.hours.Settled.{Settled}
-use Rattle.ledger.specs.Day.{Front, dayReply, dayTotal}
+use Rattle.ledger.specs.declared.hours.Kind.{Kind}
+use Rattle.ledger.specs.declared.hours.Kind.the-variants.{Generator, Icl}
+use Rattle.ledger.specs.Day.{BlockAnswer, generatorAnswer, Front, dayReply, dayTotal}
+use Rattle.ledger.specs.IclDay.{iclAnswer}
 
 -- ---- the front of a sheet: its fault, how many hours it has, a bit for each that is excluded, and the place of the first block
 
@@ -34,8 +37,13 @@ pub record FrontRead (s : List ℕ) (f : Front) (r : code.Front) : Type 0 where
   pub body : drop (r .next) s ≡ f .body
 
 -- a day that is read, where bit k of a word says whether hour k is excluded
-abbrev pub wordFront : (word : ℕ) → List ℕ → (hours : ℕ) → Front
-wordFront word body hours = record { fault = clear; hours = hours; isExcluded = marked word; body = body }
+abbrev pub wordFront : BlockAnswer → (word : ℕ) → List ℕ → (hours : ℕ) → Front
+wordFront answer word body hours = record { fault = clear; hours = hours; isExcluded = marked word; body = body; answer = answer }
+
+-- whose blocks they are
+abbrev pub answerOf : Kind → BlockAnswer
+answerOf Generator = generatorAnswer
+answerOf Icl = iclAnswer
 
 -- ---- one answer more
 
@@ -70,3 +78,11 @@ pub record SettledTo (f : Front) (r : Settled) : Type 0 where
 abbrev pub refusedDay : Check → (count : ℕ) → Day
 refusedDay check count =
     record { header = Fault check; count = count; hours = replicate LONGEST-DAY (record { answer = Refused check }); total = Withheld }
+
+-- ---- the day of a front: its fault, its hours, their answers and the total
+
+pub record DayOf (f : Front) (r : Day) : Type 0 where
+  pub header : shown (r .header) ≡ f .fault
+  pub count : r .count ≡ f .hours
+  pub hours : toldAll (r .hours) ≡ heldReplies f
+  pub total : toldTotal (r .total) ≡ dayTotal f

@@ -6,10 +6,8 @@ ghost use lib.ListN.{length, drop};
 ghost use Rattle.tariff.specs.Reply.{told};
 ghost use Rattle.tariff.specs.Sheet.{LONGEST-DAY};
 ghost use Rattle.tariff.specs.declared.Expected.the-variants.{Says};
-ghost use Rattle.blocks.specs.Block.{blockOf};
-ghost use Rattle.sheet.specs.Settle.{replyTo};
 ghost use Rattle.tariff.specs.Total.{toldTotal};
-ghost use Rattle.ledger.specs.Walk.{Rounded, UpToCents, Added, wordFront, SettledTo};
+ghost use Rattle.ledger.specs.Walk.{answerOf, Rounded, UpToCents, Added, wordFront, SettledTo};
 use tariff::Answer;
 use tariff::Cents;
 use tariff::Check;
@@ -23,15 +21,32 @@ pub struct Settled {
     pub total: Total,
 }
 
+// Whose blocks they are: a generator's, or an internal controllable line's.
+pub enum Kind {
+    Generator,
+    Icl,
+}
+
 // The block that begins at a place and has to say hour k of a day of so many.
-pub fn settle_hour(s: &[u8], at: usize, excluded: bool, k: usize, hours: usize) -> Answer
+pub fn settle_hour(
+    s: &[u8],
+    at: usize,
+    kind: Kind,
+    excluded: bool,
+    k: usize,
+    hours: usize,
+) -> Answer
     requires { ⌜ (at ≤ length (now s)) × (k < LONGEST-DAY) ⌝ }
-    ensures { λ r. ⌜ told r ≡ replyTo (blockOf (drop at (now (s .entry)))) excluded (Says (pos k) hours) 30 ⌝ }
+    ensures { λ r. ⌜ told r ≡ answerOf kind (drop at (now (s .entry))) excluded (Says (pos k) hours) ⌝ }
 {
     let mut row = [0i64; 30];
     let block = &s[at..];
     let hour = k as i64;
-    sheet::settle_block(block, excluded, Expected::Says(hour, hours), &mut row)
+    let expected = Expected::Says(hour, hours);
+    match kind {
+        Kind::Generator => sheet::settle_block(block, excluded, expected, &mut row),
+        Kind::Icl => iclsheet::settle_icl_block(block, excluded, expected, &mut row),
+    }
 }
 
 // A total with one answer more: 25 hours of 2,600,000,000,000 cents and no more are summed.
@@ -49,9 +64,9 @@ pub fn add(total: Total, answer: Answer) -> Total
 }
 
 // The answers of the first `hours` blocks from a place on, and their total, withheld where bytes follow.
-pub fn settle_hours(s: &[u8], at: usize, excluded: u32, hours: usize) -> Settled
+pub fn settle_hours(s: &[u8], at: usize, kind: Kind, excluded: u32, hours: usize) -> Settled
     requires { ⌜ (at ≤ length (now s)) × (hours ≤ LONGEST-DAY) ⌝ }
-    ensures { λ r. ⌜ SettledTo (wordFront excluded (drop at (now (s .entry))) hours) r ⌝ }
+    ensures { λ r. ⌜ SettledTo (wordFront (answerOf kind) excluded (drop at (now (s .entry))) hours) r ⌝ }
 {
     let mut answers = [HourAnswer {
         answer: Answer::Refused(Check::Form(1)),
@@ -61,7 +76,7 @@ pub fn settle_hours(s: &[u8], at: usize, excluded: u32, hours: usize) -> Settled
     let mut k: usize = 0;
     while k < hours {
         let hour = k as u32;
-        let answer = settle_hour(s, i, marks::is_marked(excluded, hour), k, hours);
+        let answer = settle_hour(s, i, kind, marks::is_marked(excluded, hour), k, hours);
         answers[k] = HourAnswer { answer };
         total = add(total, answer);
         i = lines::piece_after(s, i);

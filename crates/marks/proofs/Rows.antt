@@ -8,7 +8,7 @@ use native.Mathlib.Decide.{decLt}
 use native.Mathlib.Omega.{arith}
 use lib.Dec.{eqb}
 use lib.Bits.{bitAnd, bitOr, and-mask, or-shifted-r}
-use lib.Pow.{shl-exact, mod-pow-add, high, low}
+use lib.Pow.{shl-exact, mod-pow-add, high, low, pow-pos}
 use Rattle.exact.specs.Choice.{if_then_else_}
 use Rattle.exact.proofs.Parts.{by-test}
 use Rattle.tariff.specs.Eligible.{marked}
@@ -85,6 +85,12 @@ word-of-marks w (suc n) =
     ∙ (λ i. mark-digit (w / 2 ^ n % 2) (mod-lt (w / 2 ^ n) (omega arith)) i * 2 ^ n + word-of-marks w n i)
     ∙ sym (mod-pow-add w 1 n)
     ∙ ap (λ (k : ℕ). w % 2 ^ k) (one-add n)
+
+-- each hour is marked
+pub word-all : (n : ℕ) → word n (λ h. true) ≡ 2 ^ n - 1
+unfolding word
+word-all zero = refl
+word-all (suc n) = omega (arith, word-all n, pow-suc 2 n, pow-pos n)
 
 -- a masked word is the row that its bits say below the mask
 pub masked : (w n : ℕ) (f : ℕ → Bool) → ((h : ℕ) → h < n → marked w h ≡ f h) → bitAnd w (2 ^ n - 1) ≡ word n f

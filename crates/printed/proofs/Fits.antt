@@ -22,11 +22,13 @@ use Rattle.sheet.specs.Settle.{replyTo, hourSaid}
 use Rattle.tariff.specs.Total.{Sum, total, noTotal}
 use Rattle.tariff.specs.Sheet.{LONGEST-DAY}
 use Rattle.ledger.specs.Day.{Front, frontOf, dayReply, dayReplies, dayTotal}
+use Rattle.ledger.specs.IclDay.{iclFrontOf}
+use Rattle.ledger.proofs.IclDayDemands.{no-icl-day-is-longer}
 use Rattle.ledger.proofs.DayDemands.{no-day-is-longer}
 use Rattle.imports.specs.Import.{importReply}
 use Rattle.page.specs.Numerals.{count, counted, signed}
 use Rattle.answers.specs.Answers.{refusedLine, payLine, intervalLine, numbered, answerText, hourLine, totalLine, dayLines, refusedIn, importLine}
-use Rattle.printed.specs.Printed.{LONGEST, contributionsOf, hourText, dayPage, dayText, importText}
+use Rattle.printed.specs.Printed.{LONGEST, contributionsOf, hourText, dayPage, dayText, lineText, importText}
 
 natural-short : (left n : ℕ) → length (natural left n) ≤ left
 unfolding natural
@@ -111,18 +113,24 @@ hour-fits s = go (blockOf s)
     go (broken line) = let r = refused-short 1 line in omega arith
     go (read h) = settled h (reply h false Any 30) refl
 
-pub day-fits : (s : List ℕ) → length (dayText s) ≤ LONGEST
+page-fits : (f : Front) → f .hours ≤ LONGEST-DAY → length (dayPage f) ≤ LONGEST
 unfolding dayPage
-day-fits s = go (frontOf s) (frontOf s .fault) (no-day-is-longer s)
+page-fits f h = go (f .fault)
   where
-    go : (f : Front) (v : Verdict) → f .hours ≤ LONGEST-DAY → length (dayLines v (dayReplies f) (dayTotal f)) ≤ LONGEST
-    go f clear h =
+    go : (v : Verdict) → length (dayLines v (dayReplies f) (dayTotal f)) ≤ LONGEST
+    go clear =
         let a = length-append (numbered hourLine 0 (dayReplies f)) (totalLine (dayTotal f)) in
         let n = up-length (dayReply f) (f .hours) in
         let l = numbered-short hourLine 79 hour-short 0 (dayReplies f) in
         let t = total-short (dayTotal f) in
         omega arith
-    go f (fault number place) h = let r = refused-short number place in omega arith
+    go (fault number place) = let r = refused-short number place in omega arith
+
+pub day-fits : (s : List ℕ) → length (dayText s) ≤ LONGEST
+day-fits s = page-fits (frontOf s) (no-day-is-longer s)
+
+pub line-fits : (s : List ℕ) → length (lineText s) ≤ LONGEST
+line-fits s = page-fits (iclFrontOf s) (no-icl-day-is-longer s)
 
 pub import-fits : (s : List ℕ) → length (importText s) ≤ LONGEST
 unfolding importText

@@ -3,6 +3,7 @@ use Rattle.exact.proofs.Unique.{one, OneReply, OneState}
 use Rattle.printed.proofs.answer_text.Reads as answer-text
 use Rattle.printed.proofs.hour_text.Reads as hour-text
 use Rattle.printed.proofs.day_text.Reads as day-text
+use Rattle.printed.proofs.line_text.Reads as line-text
 use Rattle.printed.proofs.import_text.Reads as import-text
 
 pub one-answer-text : OneReply answer-text.Post
@@ -24,6 +25,12 @@ one-day-text κ a r s u v p q = one r s (p .1 .0) (q .1 .0)
 
 pub one-day-row : OneState (λ κ e. e .1 .0 .now) day-text.Post
 one-day-row κ a r s u v p q = one _ _ (p .0) (q .0)
+
+pub one-line-text : OneReply line-text.Post
+one-line-text κ a r s u v p q = one r s (p .1 .0) (q .1 .0)
+
+pub one-line-row : OneState (λ κ e. e .1 .0 .now) line-text.Post
+one-line-row κ a r s u v p q = one _ _ (p .0) (q .0)
 
 pub one-import-text : OneReply import-text.Post
 one-import-text κ a r s u v p q = one r s (p .1 .0) (q .1 .0)

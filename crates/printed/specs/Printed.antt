@@ -9,6 +9,7 @@ use Rattle.tariff.specs.Hour.{contribution}
 use Rattle.blocks.specs.Block.{Block, broken, read, blockOf}
 use Rattle.sheet.specs.Settle.{replyTo, hourSaid}
 use Rattle.ledger.specs.Day.{Front, frontOf, dayReplies, dayTotal}
+use Rattle.ledger.specs.IclDay.{iclFrontOf}
 use Rattle.imports.specs.Import.{importReply}
 use Rattle.answers.specs.Answers.{answerText, dayLines, importLine}
 
@@ -30,6 +31,10 @@ dayPage f = dayLines (f .fault) (dayReplies f) (dayTotal f)
 
 abbrev pub dayText : List ℕ → List ℕ
 dayText s = dayPage (frontOf s)
+
+-- `line`: the same of the day of an internal controllable line
+abbrev pub lineText : List ℕ → List ℕ
+lineText s = dayPage (iclFrontOf s)
 
 unfoldable pub importText : List ℕ → List ℕ
 importText s = importLine (importReply s)

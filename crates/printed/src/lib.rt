@@ -8,7 +8,7 @@ ghost use Rattle.io.specs.Counts.{Counts};
 ghost use Rattle.tariff.specs.Reply.{told};
 ghost use Rattle.page.specs.Page.{written};
 ghost use Rattle.answers.specs.Answers.{answerText};
-ghost use Rattle.printed.specs.Printed.{hourText, dayText, importText};
+ghost use Rattle.printed.specs.Printed.{hourText, dayText, lineText, importText};
 use tariff::Answer;
 use tariff::Expected;
 
@@ -43,6 +43,19 @@ pub fn day_text(sheet: &[u8], page: &mut [u8]) -> usize
     ensures within { λ r. ⌜ Counts r (now (page .exit)) ⌝ }
 {
     let day = ledger::settle_day(sheet);
+    let header = day.header;
+    let hours = day.hours;
+    let total = day.total;
+    answers::put_day(page, 0, header, hours, day.count, total)
+}
+
+// What `line` prints of the day of an internal controllable line.
+pub fn line_text(text: &[u8], page: &mut [u8]) -> usize
+    ensures text { λ r. ⌜ now (page .exit) ≡ written (now (page .entry)) 0 (lineText (now (text .entry))) ⌝ }
+    ensures count { λ r. ⌜ r ≡ min (length (lineText (now (text .entry)))) (length (now (page .entry))) ⌝ }
+    ensures within { λ r. ⌜ Counts r (now (page .exit)) ⌝ }
+{
+    let day = ledger::settle_icl_day(text);
     let header = day.header;
     let hours = day.hours;
     let total = day.total;

@@ -10,6 +10,8 @@ use Rattle.ranges.proofs.is_mark.Reads as is-mark
 use Rattle.ranges.proofs.ahead_in_range.Reads as ahead-in-range
 use Rattle.ranges.proofs.curve_in_range.Reads as curve-in-range
 use Rattle.ranges.proofs.interval_in_range.Reads as interval-in-range
+use Rattle.ranges.proofs.icl_ahead_in_range.Reads as icl-ahead-in-range
+use Rattle.ranges.proofs.icl_interval_in_range.Reads as icl-interval-in-range
 
 pub one-is-count : OneReply is-count.Post
 one-is-count κ a r s u v p q = one r s p q
@@ -40,3 +42,9 @@ one-curve-in-range κ a r s u v p q = one r s p q
 
 pub one-interval-in-range : OneReply interval-in-range.Post
 one-interval-in-range κ a r s u v p q = one r s p q
+
+pub one-icl-ahead-in-range : OneReply icl-ahead-in-range.Post
+one-icl-ahead-in-range κ a r s u v p q = one r s p q
+
+pub one-icl-interval-in-range : OneReply icl-interval-in-range.Post
+one-icl-interval-in-range κ a r s u v p q = one r s p q

@@ -1,9 +1,11 @@
-// The range of each number of a record: of an hour's, and of an import's. Any values are judged: nothing is asked of the caller.
+// The range of each number of a record: of an hour's, of an internal controllable line's, and of an import's. Any values are judged: nothing is asked of the caller.
 ghost use mathlib.Core.Path.{_≡_};
 ghost use mathlib.Core.Bool.{_&&_};
 ghost use Rattle.tariff.specs.Sheet.{isCount, hoursBy, isSeconds, isHour, isPower, isCapacity, isBid, isPrice, curveInRange, uolInRange, aheadInRange, intervalInRange, isMark};
+ghost use Rattle.tariff.specs.Controllable.{iclAheadInRange, iclIntervalInRange};
 use tariff::Curve;
 use tariff::DayAhead;
+use tariff::IclInterval;
 use tariff::Interval;
 use tariff::Kw;
 use tariff::LONGEST_DAY;
@@ -166,4 +168,20 @@ pub fn interval_in_range(v: Interval) -> bool
         & uol_in_range(uol)
         & bids_in_range(v)
         & prices_in_range(v)
+}
+
+// The schedules on line 1 of an internal controllable line's block.
+pub fn icl_ahead_in_range(dasi: Kw, dasw: Kw) -> bool
+    ensures { λ r. ⌜ r ≡ iclAheadInRange dasi dasw ⌝ }
+{
+    is_power(dasi) & is_power(dasw)
+}
+
+// An interval line of it.
+pub fn icl_interval_in_range(v: IclInterval) -> bool
+    ensures { λ r. ⌜ r ≡ iclIntervalInRange v ⌝ }
+{
+    let power = is_power(v.en) & is_power(v.aei) & is_power(v.aew);
+    let prices = is_price(v.pin) & is_price(v.pout);
+    is_seconds(v.s) & power & prices
 }

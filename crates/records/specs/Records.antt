@@ -8,6 +8,7 @@ use Rattle.tariff.specs.declared.Uol.the-variants as uol
 use Rattle.tariff.specs.declared.DayAhead.{DayAhead}
 use Rattle.tariff.specs.declared.Interval.{Interval}
 use Rattle.tariff.specs.declared.Curtailed.{Curtailed}
+use Rattle.tariff.specs.declared.IclInterval.{IclInterval}
 use Rattle.tariff.specs.Units.{kw, price, movePrice, seconds}
 use Rattle.text.specs.Number.{missing}
 
@@ -67,3 +68,7 @@ curtailedOf v =
       bid = price (v 5);
       def = price (v 6);
     }
+
+-- an interval line of an internal controllable line's block
+abbrev pub iclIntervalOf : (ℕ → ℤ) → IclInterval
+iclIntervalOf v = record { s = seconds (v 0); en = kw (v 1); aei = kw (v 2); aew = kw (v 3); pin = price (v 4); pout = price (v 5) }

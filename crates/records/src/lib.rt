@@ -4,9 +4,11 @@ ghost use lib.IntN.{pos};
 ghost use lib.ListN.{getD};
 ghost use Rattle.tariff.specs.Hour.{blank};
 ghost use Rattle.tariff.specs.Import.{blankCurtailed};
-ghost use Rattle.records.specs.Records.{uolOf, aheadOf, intervalOf, curtailedOf};
+ghost use Rattle.tariff.specs.Controllable.{blankIcl};
+ghost use Rattle.records.specs.Records.{uolOf, aheadOf, intervalOf, curtailedOf, iclIntervalOf};
 use tariff::Curtailed;
 use tariff::DayAhead;
+use tariff::IclInterval;
 use tariff::Interval;
 use tariff::Kw;
 use tariff::MovePrice;
@@ -124,5 +126,32 @@ pub fn blank_curtailed() -> Curtailed
         lbmp: Price(0),
         bid: Price(0),
         def: Price(0),
+    }
+}
+
+// An interval line of an internal controllable line's block.
+pub fn icl_interval_of(v: [i64; 20]) -> IclInterval
+    ensures { λ r. ⌜ r ≡ iclIntervalOf (λ n. getD v n (pos 0)) ⌝ }
+{
+    IclInterval {
+        s: Seconds(v[0]),
+        en: Kw(v[1]),
+        aei: Kw(v[2]),
+        aew: Kw(v[3]),
+        pin: Price(v[4]),
+        pout: Price(v[5]),
+    }
+}
+
+pub fn blank_icl() -> IclInterval
+    ensures { λ r. ⌜ r ≡ blankIcl ⌝ }
+{
+    IclInterval {
+        s: Seconds(0),
+        en: Kw(0),
+        aei: Kw(0),
+        aew: Kw(0),
+        pin: Price(0),
+        pout: Price(0),
     }
 }

@@ -1,5 +1,5 @@
 -- The theorems of the definitions of a block: demand 3 as it speaks of texts, where a block ends, and the text of a record.
-use mathlib.Core.Path.{_≡_, refl, sym, _∙_, ap}
+use mathlib.Core.Path.{_≡_, refl, sym, _∙_}
 use mathlib.Core.Bool.{Bool}
 use mathlib.Core.List.{List, [], _∷_, _++_}
 use mathlib.Core.Logic.{_↔_}
@@ -21,14 +21,15 @@ use Rattle.tariff.proofs.Demands.{
   adding-curve-changes-nothing,
   form-comes-first,
 }
-use Rattle.blocks.specs.Block.{Block, blockOf, broken, read}
 use Rattle.lines.specs.Pieces.{PIECE}
+use Rattle.curves.specs.Closed.{Closed}
+use Rattle.curves.proofs.Frames.{form-when-broken}
+use Rattle.blocks.specs.Block.{Block, blockOf, broken, read}
 use Rattle.sheet.specs.Settle.{replyTo, rowTo}
 use Rattle.sheet.specs.Apart.{CurvesApart}
-use Rattle.sheet.specs.Closed.{Closed}
 use Rattle.sheet.specs.Print.{textOf, Plain}
 use Rattle.sheet.proofs.Apart.{apart-alike, apart-broken}
-use Rattle.sheet.proofs.ReadHours.{Sound, read-sound}
+use Rattle.sheet.proofs.ReadHours.{read-sound}
 use Rattle.sheet.proofs.Closing.{decided, closed-or-ended, not-read}
 use Rattle.sheet.proofs.ReadsBack.{text-read, read-again}
 
@@ -122,11 +123,9 @@ the-end-closes = closed-or-ended
 pub form-exactly-when-broken :
     (s : List ℕ) (isExcluded : Bool) (expected : Expected) (room line : ℕ)
     → (replyTo (blockOf s) isExcluded expected room ≡ refused FORM line) ↔ (blockOf s ≡ broken line)
-form-exactly-when-broken s isExcluded expected room line = (go (blockOf s) (read-sound s), λ e. ap (λ (b : Block). replyTo b isExcluded expected room) e)
-  where
-    go : (b : Block) → ((h : Hour) → b ≡ read h → Sound h) → replyTo b isExcluded expected room ≡ refused FORM line → b ≡ broken line
-    go (broken l) sound e = cc
-    go (read h) sound e = absurd (never-clear (sym (form-comes-first h isExcluded expected room line .0 e) ∙ sound h refl .form))
+form-exactly-when-broken s isExcluded expected room line =
+    form-when-broken (λ (b : Block). replyTo b isExcluded expected room) (blockOf s) line (λ l. refl)
+    (λ h e q. never-clear (sym (form-comes-first h isExcluded expected room line .0 q) ∙ read-sound s h e .form))
 
 -- ---- the text of a record
 

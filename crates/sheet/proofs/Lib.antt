@@ -1,5 +1,4 @@
 -- What is proved of the sheet's definitions: `BlockDemands` states it. The others hold the laws that it and the functions' proofs cite.
-pub mod BlockShared
 pub mod Closing
 pub mod Apart
 pub mod PrintsCurve

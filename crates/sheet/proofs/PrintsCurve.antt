@@ -23,7 +23,7 @@ use Rattle.text.specs.Number.{digitOf, digitAt}
 use Rattle.keys.specs.Keys.{PAIR, KEYS}
 use Rattle.lines.specs.Line.{valueIn}
 use Rattle.lines.specs.Series.{seriesPlace, seriesIn}
-use Rattle.blocks.specs.CurveLine.{afterPair, afterPairs, endOfPair, priceOfPair, curveLine, curveSaid}
+use Rattle.curves.specs.CurveLine.{afterPair, afterPairs, endOfPair, priceOfPair, curveLine, curveSaid}
 use Rattle.text.specs.Decimal.{number}
 use Rattle.lines.specs.Print.{fields}
 use Rattle.sheet.specs.Print.{pairsText, curveText, CurvePlain}

@@ -17,13 +17,14 @@ use Rattle.tariff.specs.declared.Hour.{Hour}
 use Rattle.tariff.specs.declared.Expected.{Expected}
 use Rattle.tariff.specs.Sheet.{LONGEST-DAY, liesIn, isHour}
 use Rattle.tariff.specs.Reply.{clear}
-use Rattle.tariff.specs.Hour.{blank, hoursAround, form, range}
+use Rattle.tariff.specs.Checks.{hoursAround}
+use Rattle.tariff.specs.Hour.{blank, partsOf, form, range}
 use Rattle.tariff.proofs.Tests.{and-left, and-right}
 use Rattle.tariff.proofs.Ranges.{ahead-fits, curve-fits, form-says, range-says}
 use Rattle.keys.specs.Keys.{AHEAD, DA, RT}
 use Rattle.lines.specs.Line.{closes, valueIn}
 use Rattle.lines.specs.Series.{lineCount}
-use Rattle.blocks.specs.CurveLine.{curveLine, curveSaid}
+use Rattle.curves.specs.CurveLine.{curveLine, curveSaid}
 use Rattle.blocks.specs.Block.{intervalLines, withSeries, afterLine2, blockAt, blockOf, read}
 use Rattle.lines.specs.Print.{line}
 use Rattle.sheet.specs.Print.{aheadTexts, curveText, intervalsText, textOf, Plain}
@@ -72,25 +73,25 @@ module _ (h : Hour) (expected : Expected) (f : form h ≡ clear) (r : range h ex
     module _ (o : Lines) where
       said : LineSaid AHEAD (aheadTexts h) (λ j. getD (aheadValues h) j (pos 0)) s 0 10
       said =
-          let say = ahead-say h (hour-within (hoursAround expected) (h .hour) (range-says h expected r .0)) (ahead-fits (h .ahead) (range-says h expected r .1)) in
+          let say = ahead-say h (hour-within (hoursAround expected) (h .hour) (range-says (partsOf h) expected r .0)) (ahead-fits (h .ahead) (range-says (partsOf h) expected r .1)) in
           line-said AHEAD _ _ s 0 10 (say-at AHEAD (aheadTexts h) (aheadValues h) say) (omega arith) (o .one)
 
-      row : (i : ℕ) → i < h .n → Row h (range-says h expected r .4) s place4 i
-      row = series-said h (range-says h expected r .4) s place4 (h .n) (omega arith) (o .more)
+      row : (i : ℕ) → i < h .n → Row h (range-says (partsOf h) expected r .4) s place4 i
+      row = series-said h (range-says (partsOf h) expected r .4) s place4 (h .n) (omega arith) (o .more)
 
       series-read : intervalLines s place4 ≡ lineCount (h .n)
       unfolding intervalsText
-      series-read = rw add-zero at (series-counted h (range-says h expected r .4) s place4 row (h .n) 30 0 (zero-add _) (form-says h f .2) (o .end))
+      series-read = rw add-zero at (series-counted h (range-says (partsOf h) expected r .4) s place4 row (h .n) 30 0 (zero-add _) (form-says (partsOf h) f .2) (o .end))
 
       curves-read : (v : ℕ → ℤ) → afterLine2 (curveLine DA s place2) v (curveSaid DA s place2) s ≡ withSeries v (h .da) (h .rt) s place4 (lineCount (h .n))
       curves-read v =
-          let d = curve-fits (h .da) (range-says h expected r .2) in
-          let u = curve-fits (h .rt) (range-says h expected r .3) in
+          let d = curve-fits (h .da) (range-says (partsOf h) expected r .2) in
+          let u = curve-fits (h .rt) (range-says (partsOf h) expected r .3) in
           rw (
-            curve-line-said (h .da) d s DA place2 (form-says h f .0) (omega arith) (o .two),
-            curve-said (h .da) d s DA place2 (form-says h f .0) (omega arith) (o .two) (p .da),
-            curve-line-said (h .rt) u s RT place3 (form-says h f .1) (omega arith) (o .three),
-            curve-said (h .rt) u s RT place3 (form-says h f .1) (omega arith) (o .three) (p .rt),
+            curve-line-said (h .da) d s DA place2 (form-says (partsOf h) f .0) (omega arith) (o .two),
+            curve-said (h .da) d s DA place2 (form-says (partsOf h) f .0) (omega arith) (o .two) (p .da),
+            curve-line-said (h .rt) u s RT place3 (form-says (partsOf h) f .1) (omega arith) (o .three),
+            curve-said (h .rt) u s RT place3 (form-says (partsOf h) f .1) (omega arith) (o .three) (p .rt),
             series-read,
           )
 
@@ -99,7 +100,7 @@ module _ (h : Hour) (expected : Expected) (f : form h ≡ clear) (r : range h ex
       lines-read =
           rw (said .place, curves-read (valueIn AHEAD s 0), said .values 0 (omega arith), ahead-back h (valueIn AHEAD s 0) (said .values))
           (ap (λ (l : List Interval). read (record { hour = h .hour; ahead = h .ahead; da = h .da; rt = h .rt; n = h .n; iv = l }))
-          (filled-same _ _ blank (h .n) 30 (each-said h (range-says h expected r .4) s place4 row) ∙ sym (p .iv)))
+          (filled-same _ _ blank (h .n) 30 (each-said h (range-says (partsOf h) expected r .4) s place4 row) ∙ sym (p .iv)))
 
   -- the text's lines stand in it, and it ends behind them
   text-lines : Lines (textOf h)

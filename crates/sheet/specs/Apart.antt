@@ -1,24 +1,12 @@
 -- Two block texts that differ in their curve lines only.
-use mathlib.Core.Path.{_≡_}
-use mathlib.Core.List.{List, _++_}
-use Prim.Native.Nat.{ℕ, _+_}
-use lib.ListN.{length}
-use Rattle.text.specs.declared.Next.the-variants.{At}
-use Rattle.keys.specs.Keys.{DA, RT}
-use Rattle.lines.specs.Line.{andThen}
-use Rattle.blocks.specs.CurveLine.{curveLine}
+use mathlib.Core.List.{List}
+use Prim.Native.Nat.{ℕ}
+use Rattle.curves.specs.Apart as apart
 use Rattle.blocks.specs.Block.{aheadLine}
 
 -- line 1 of a text ends where `first` does, and its two curve lines where `curves` does
-pub record InThree (s first curves rest : List ℕ) : Type 0 where
-  pub parts : s ≡ first ++ curves ++ rest
-  pub line1 : aheadLine s 0 ≡ At (length first)
-  pub lines23 : andThen (curveLine DA s (length first)) (curveLine RT s) ≡ At (length first + length curves)
+abbrev pub InThree : (s first curves rest : List ℕ) → Type 0
+InThree = apart.InThree aheadLine
 
-pub record CurvesApart (s t : List ℕ) : Type 0 where
-  pub first : List ℕ
-  pub curves : List ℕ
-  pub others : List ℕ
-  pub rest : List ℕ
-  pub one : InThree s first curves rest
-  pub other : InThree t first others rest
+abbrev pub CurvesApart : (s t : List ℕ) → Type 0
+CurvesApart = apart.CurvesApart aheadLine

@@ -15,7 +15,7 @@ use Rattle.text.specs.Number.{digitAt, moreDigits, naturalAt, numberAt}
 use Rattle.lines.specs.Line.{valueAt, fieldAt, afterFields, valueIn, lineAt, closes}
 use Rattle.lines.specs.Series.{seriesPlace, seriesIn, lineCount, brokenLine, seriesAt}
 use Rattle.blocks.specs.Block.{Block, intervalLine, intervalAt, blockAt, blockOf, broken, read}
-use Rattle.blocks.specs.CurveLine.{curveLine, curveSaid}
+use Rattle.curves.specs.CurveLine.{curveLine, curveSaid}
 use Rattle.sheet.specs.Apart.{CurvesApart}
 use Rattle.text.specs.Decimal.{natural}
 use Rattle.lines.specs.Print.{fields, line}

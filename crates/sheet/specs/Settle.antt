@@ -4,18 +4,16 @@ use mathlib.Core.List.{List}
 use Prim.Native.Nat.{ℕ}
 use lib.IntN.{ℤ, pos}
 use Rattle.tariff.specs.declared.Expected.{Expected}
-use Rattle.tariff.specs.Reply.{Reply, refused, FORM}
+use Rattle.tariff.specs.Reply.{Reply}
 use Rattle.tariff.specs.Hour.{reply, rowAfter}
+use Rattle.curves.specs.Answered.{framedReply, framedRow}
 use Rattle.blocks.specs.Block.{Block, broken, read}
 
--- FORM comes before every other check
 abbrev pub replyTo : Block → Bool → Expected → ℕ → Reply
-replyTo (broken line) isExcluded expected room = refused FORM line
-replyTo (read h) isExcluded expected room = reply h isExcluded expected room
+replyTo = framedReply reply
 
 abbrev pub rowTo : Block → Bool → Expected → List ℤ → List ℤ
-rowTo (broken line) isExcluded expected row = row
-rowTo (read h) isExcluded expected row = rowAfter h isExcluded expected row
+rowTo = framedRow rowAfter
 
 -- what a block says of itself: its hour, and how many intervals it has
 abbrev pub hourSaid : Block → ℤ

@@ -14,7 +14,7 @@ use Rattle.lines.specs.Line.{valueIn}
 use Rattle.lines.specs.Series.{seriesPlace, Series}
 use Rattle.lines.specs.Print.{line}
 use Rattle.lines.proofs.Series.{Found, all, broken-at, series-found}
-use Rattle.blocks.specs.CurveLine.{curveLine, curveSaid}
+use Rattle.curves.specs.CurveLine.{curveLine, curveSaid}
 use Rattle.blocks.specs.Block.{aheadLine, intervalLine, intervalSaid, hourWith, read, withSeries, afterLine1, afterLine2, afterLine3, blockAt, blockOf}
 use Rattle.sheet.specs.Print.{amountTexts, intervalsText, textOf}
 use Rattle.sheet.proofs.Apart.{never-read}

@@ -22,7 +22,7 @@ use Rattle.lines.specs.Series.{seriesPlace, seriesFrom, seriesIn}
 use Rattle.lines.specs.Print.{fields}
 use Rattle.lines.proofs.Along.{never-at}
 use Rattle.lines.proofs.Fill.{filled-at}
-use Rattle.blocks.specs.CurveLine.{afterPair, afterPairs, endSaid, priceSaid, endOfPair, priceOfPair, pairsAt, curveLine, curveFrom, curveSaid}
+use Rattle.curves.specs.CurveLine.{afterPair, afterPairs, endSaid, priceSaid, endOfPair, priceOfPair, pairsAt, curveLine, curveFrom, curveSaid}
 use Rattle.sheet.specs.Print.{pairsText, curveText}
 use Rattle.spelling.specs.Spelt.{Spelt}
 use Rattle.spelling.proofs.Places.{none-spelt, both-spelt, fed-spelt}

@@ -36,7 +36,7 @@ use Rattle.marks.proofs.Rows.{marked-word}
 use Rattle.header.specs.declared.layout.Line.{Line}
 use Rattle.header.specs.declared.layout.Line.the-variants.{Number, Row, Run, Close}
 use Rattle.header.specs.Layout.{lineIn, digitsAt, rowAt, saidAt, headerLine, linePlace, numberFrom, digitIn, digitFrom, lineInRange, layoutForm, layoutRange, lineOf, numberOn, digitOn}
-use Rattle.header.specs.Header.{MARKS, unitAndMarks, form1, form2, layoutBy, isForm2, countOf, layoutOf, hoursOf, headerFault, unitOf, rowWord, marksBy, marksOf}
+use Rattle.header.specs.Header.{MARKS, unitAndMarks, form1, form2, layoutBy, isForm2, formBy, formOf, countOf, layoutOf, hoursOf, headerFault, unitOf, rowWord, marksBy, marksOf}
 use Rattle.header.proofs.HeaderCounts.{a-header-that-is-read-has-a-count}
 use Rattle.header.proofs.Forms.{one-number, UnitBehind, unit-behind}
 use Rattle.header.proofs.HeaderLines.{none-refused, isInRange, startOf}
@@ -184,10 +184,10 @@ module _ (layout : List Line) (d hours : ℕ) (s : List ℕ) (form : layoutForm 
 
 -- ---- a header without fault
 
-lines-spelt : (two : Bool) (hours : ℕ) (s : List ℕ) → layoutForm (layoutBy two true) hours s ≡ clear → layoutRange (layoutBy two true) hours s ≡ clear
-    → (two ≡ true → pos hours ≡ numberOn (layoutBy two true) hours HOURS-LINE s)
-    → Spelt s 0 (headerText two hours (numberOn (layoutBy two true) hours UNIT-LINE s) (marksBy (layoutBy two true) hours s))
-    (startOf (layoutBy two true) hours s (length (layoutBy two true)))
+lines-spelt : (two : Bool) (hours : ℕ) (s : List ℕ) → layoutForm (layoutBy (formBy two) true) hours s ≡ clear → layoutRange (layoutBy (formBy two) true) hours s ≡ clear
+    → (two ≡ true → pos hours ≡ numberOn (layoutBy (formBy two) true) hours HOURS-LINE s)
+    → Spelt s 0 (headerText two hours (numberOn (layoutBy (formBy two) true) hours UNIT-LINE s) (marksBy (layoutBy (formBy two) true) hours s))
+    (startOf (layoutBy (formBy two) true) hours s (length (layoutBy (formBy two) true)))
 unfolding layoutRange lineInRange linePlace numberOn valueText
 lines-spelt true hours s form range says =
     let layout = form2 true in
@@ -218,8 +218,8 @@ module _ (s : List ℕ) (e : headerFault s ≡ clear) where
   counted : isCount (countOf s) ≡ true
   counted = a-header-that-is-read-has-a-count s e
 
-  judged : layoutOf s ≡ layoutBy (isForm2 s) true
-  judged = ap (layoutBy (isForm2 s)) counted
+  judged : layoutOf s ≡ layoutBy (formOf s) true
+  judged = ap (layoutBy (formOf s)) counted
 
   spelt : Spelt s 0 (headerText (isForm2 s) (hoursOf s) (unitOf s) (marksOf s)) (startOf (layoutOf s) (hoursOf s) s (length (layoutOf s)))
   spelt =
@@ -229,7 +229,7 @@ module _ (s : List ℕ) (e : headerFault s ≡ clear) where
       (lines-spelt (isForm2 s) (hoursOf s) s
       (subst (λ (l : List Line). layoutForm l (hoursOf s) s ≡ clear) judged (checks .0))
       (subst (λ (l : List Line). layoutRange l (hoursOf s) s ≡ clear) judged (checks .1))
-      (λ two. hours-said s (hoursOf s) counted two ∙ ap (λ (t : Bool). numberOn (layoutBy t true) (hoursOf s) HOURS-LINE s) (sym two)))
+      (λ two. hours-said s (hoursOf s) counted two ∙ ap (λ (t : Bool). numberOn (layoutBy (formBy t) true) (hoursOf s) HOURS-LINE s) (sym two)))
 
   pub header-text : s ≡ headerText (isForm2 s) (hoursOf s) (unitOf s) (marksOf s) ++ frontOf s .body
   header-text = rw (clear-next s e) (spelt .bytes)

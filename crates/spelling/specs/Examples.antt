@@ -8,7 +8,7 @@ use Rattle.text.specs.Number.{digitAt, moreDigits, naturalAt, numberAt}
 use Rattle.lines.specs.Line.{valueAt, fieldAt, afterFields, valueIn, lineAt, closes}
 use Rattle.lines.specs.Series.{seriesPlace, seriesIn, seriesAt}
 use Rattle.blocks.specs.Block.{Block, blockAt, blockOf}
-use Rattle.blocks.specs.CurveLine.{curveLine, curveSaid}
+use Rattle.curves.specs.CurveLine.{curveLine, curveSaid}
 use Rattle.spelling.specs.Spelt.{IsText, ended, closed}
 
 -- what a proof by computation opens

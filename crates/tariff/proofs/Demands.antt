@@ -25,7 +25,7 @@ use Rattle.tariff.specs.Curve.{known, quote, change, integral}
 use Rattle.tariff.specs.Reply.{Reply, paid, refused, FORM, RANGE, ORDER, CURVE, SECONDS, DERATE, REACH, ROOM, Verdict, told, shown, clear, fault}
 use Rattle.tariff.specs.Eligible.{lags}
 use Rattle.tariff.specs.Derate.{ofFive, redTot, potRed, floorOf, remainder, leftOver, isBefore, share}
-use Rattle.tariff.specs.Hour.{interval, outcome, outcomeAt, contribution, blockFault, reply, rowAfter, form, range, order, intervals}
+use Rattle.tariff.specs.Hour.{interval, partsOf, outcome, outcomeAt, contribution, blockFault, reply, rowAfter, form, range, order, intervals}
 use Rattle.tariff.specs.Outcome.{gives}
 use Rattle.tariff.specs.Demand.{MustPrice, priceIn, FirstUnpriced, FirstExceeded, UnpricedBeforeDerate, ExceededBeforeReach}
 use Rattle.tariff.specs.Demand.{FirstOutOfRange, FirstCurveBroken, SaysAnotherHour, Alike, Lawful, WholeHour, Passes, Extends}
@@ -63,7 +63,7 @@ pub reach-exactly-when-unpriced :
     (h : Hour) (isExcluded : Bool) (expected : Expected) (room i : ℕ)
     → (reply h isExcluded expected room ≡ refused REACH (i + 1)) ↔ (WholeHour h expected × FirstUnpriced h isExcluded i)
 reach-exactly-when-unpriced h isExcluded expected room i =
-    Iff·trans (stop-given (generator h isExcluded expected) room REACH refl i) (Iff·and (whole-when h expected) (first-unpriced h isExcluded i))
+    Iff·trans (stop-given (generator h isExcluded expected) room REACH refl i) (Iff·and (whole-when (partsOf h) expected) (first-unpriced h isExcluded i))
 
 -- So an hour is refused for reach exactly when no check from 1 to 5 refuses it, a kilowatt that some interval must price has no price,
 -- and no derate refusal falls in that interval or before it.
@@ -71,7 +71,7 @@ pub refused-for-reach-exactly-when-some-kilowatt-is-unpriced :
     (h : Hour) (isExcluded : Bool) (expected : Expected) (room : ℕ)
     → ((place : ℕ) × (reply h isExcluded expected room ≡ refused REACH place)) ↔ (WholeHour h expected × UnpricedBeforeDerate h isExcluded)
 refused-for-reach-exactly-when-some-kilowatt-is-unpriced h isExcluded expected room =
-    Iff·trans (some-given (generator h isExcluded expected) room REACH refl) (Iff·and (whole-when h expected) (some-unpriced h isExcluded))
+    Iff·trans (some-given (generator h isExcluded expected) room REACH refl) (Iff·and (whole-when (partsOf h) expected) (some-unpriced h isExcluded))
 
 -- Adding curve to a paid hour never moves a cent, where the longer curves break no rule of checks 1 to 4: with every price that its
 -- curves had, and perhaps more, it pays the same and leaves the same row.
@@ -85,7 +85,7 @@ pub adding-curve-changes-nothing :
     → (reply g isExcluded expected (length row) ≡ paid sum cents) × (rowAfter g isExcluded expected row ≡ rowAfter h isExcluded expected row)
 adding-curve-changes-nothing h g isExcluded expected row sum cents a f da rt e =
     let passes = paid-when (blockFault h expected) (outcomeAt h isExcluded) (h .n) (length row) sum cents .0 e in
-    let same = only-needed-prices-matter h g isExcluded expected row a (whole-when h expected .0 (passes .0) .lawful) f (extended-price h g a isExcluded da rt (passes .1)) in
+    let same = only-needed-prices-matter h g isExcluded expected row a (whole-when (partsOf h) expected .0 (passes .0) .lawful) f (extended-price h g a isExcluded da rt (passes .1)) in
     (sym (same .0) ∙ e, sym (same .1))
 
 -- A curve with further steps at its end has every price that it had.
@@ -123,7 +123,7 @@ unfolding outcomeAt centsOf
 excluded-pays-nothing h expected room f u =
     let none = sum-zeros (contribution h true) (h .n) (λ i v. refl) in
     let unstopped = none-stopped (outcomeAt h true) (h .n) .1 (λ i v number e. impossible cc) in
-    paid-when (blockFault h expected) (outcomeAt h true) (h .n) room (pos 0) (pos 0) .1 (whole-when h expected .1 f, unstopped, u, sym none, rw none)
+    paid-when (blockFault h expected) (outcomeAt h true) (h .n) room (pos 0) (pos 0) .1 (whole-when (partsOf h) expected .1 f, unstopped, u, sym none, rw none)
 
 -- An hour is paid exactly when no check refuses it, and then with the sum of its contributions and that sum's cents.
 pub paid-exactly-when-nothing-refuses :
@@ -134,8 +134,8 @@ pub paid-exactly-when-nothing-refuses :
     × (cents ≡ centsOf (sumTo (contribution h isExcluded) (h .n))))
 paid-exactly-when-nothing-refuses h isExcluded expected room sum cents =
     let it = paid-when (blockFault h expected) (outcomeAt h isExcluded) (h .n) room sum cents in (
-      λ e. let w = it .0 e in (record { whole = whole-when h expected .0 (w .0); intervals = w .1; fits = w .2 }, w .3, w .4),
-      λ w. it .1 (whole-when h expected .1 (w .0 .whole), w .0 .intervals, w .0 .fits, w .1, w .2),
+      λ e. let w = it .0 e in (record { whole = whole-when (partsOf h) expected .0 (w .0); intervals = w .1; fits = w .2 }, w .3, w .4),
+      λ w. it .1 (whole-when (partsOf h) expected .1 (w .0 .whole), w .0 .intervals, w .0 .fits, w .1, w .2),
     )
 
 -- S is the sum of contributions; its cents are rounded down, once.
@@ -156,22 +156,22 @@ form-comes-first h isExcluded expected room line = turn-given (generator h isExc
 -- RANGE is given exactly when a number is outside its range, at the first such line.
 pub range-exactly-when-outside :
     (h : Hour) (isExcluded : Bool) (expected : Expected) (room line : ℕ)
-    → (reply h isExcluded expected room ≡ refused RANGE line) ↔ ((form h ≡ clear) × FirstOutOfRange h expected line)
-range-exactly-when-outside h isExcluded expected room line = turn-given (generator h isExcluded expected) room RANGE 1 line refl refl refl (range-finds h expected line)
+    → (reply h isExcluded expected room ≡ refused RANGE line) ↔ ((form h ≡ clear) × FirstOutOfRange (partsOf h) expected line)
+range-exactly-when-outside h isExcluded expected room line = turn-given (generator h isExcluded expected) room RANGE 1 line refl refl refl (range-finds (partsOf h) expected line)
 
 -- ORDER is given exactly when an hour is expected and the block says another, at 1.
 pub order-exactly-when-another-hour :
     (h : Hour) (isExcluded : Bool) (expected : Expected) (room place : ℕ)
-    → (reply h isExcluded expected room ≡ refused ORDER place) ↔ ((form h ≡ clear) × (range h expected ≡ clear) × (place ≡ 1) × SaysAnotherHour h expected)
+    → (reply h isExcluded expected room ≡ refused ORDER place) ↔ ((form h ≡ clear) × (range h expected ≡ clear) × (place ≡ 1) × SaysAnotherHour (h .hour) expected)
 order-exactly-when-another-hour h isExcluded expected room place =
-    Iff·trans (turn-given (generator h isExcluded expected) room ORDER 2 place refl refl refl (order-finds h place expected)) of-four
+    Iff·trans (turn-given (generator h isExcluded expected) room ORDER 2 place refl refl refl (order-finds (partsOf h) place expected)) of-four
 
 -- CURVE is given exactly when a curve rule is broken, at line 2 or 3, the first.
 pub curve-exactly-when-broken :
     (h : Hour) (isExcluded : Bool) (expected : Expected) (room line : ℕ)
-    → (reply h isExcluded expected room ≡ refused CURVE line) ↔ ((form h ≡ clear) × (range h expected ≡ clear) × (order h expected ≡ clear) × FirstCurveBroken h line)
+    → (reply h isExcluded expected room ≡ refused CURVE line) ↔ ((form h ≡ clear) × (range h expected ≡ clear) × (order h expected ≡ clear) × FirstCurveBroken (partsOf h) line)
 curve-exactly-when-broken h isExcluded expected room line =
-    Iff·trans (turn-given (generator h isExcluded expected) room CURVE 3 line refl refl refl (curves-find h line)) of-four
+    Iff·trans (turn-given (generator h isExcluded expected) room CURVE 3 line refl refl refl (curves-find (partsOf h) line)) of-four
 
 -- SECONDS is given exactly when the seconds do not sum to 3600, at 0.
 pub seconds-exactly-when-not-3600 :
@@ -179,7 +179,7 @@ pub seconds-exactly-when-not-3600 :
     → (reply h isExcluded expected room ≡ refused SECONDS place)
     ↔ (Lawful h expected × (place ≡ 0) × (sumTo (λ i. interval h i .s .0) (h .n) ≡ pos 3600 → ⊥))
 seconds-exactly-when-not-3600 h isExcluded expected room place =
-    Iff·trans (turn-given (generator h isExcluded expected) room SECONDS 4 place refl refl refl (seconds-find h place)) (Iff·trans (past-lawful h expected) of-three)
+    Iff·trans (turn-given (generator h isExcluded expected) room SECONDS 4 place refl refl refl (seconds-find (partsOf h) place)) (Iff·trans (past-lawful (partsOf h) expected) of-three)
 
 -- DERATE is given exactly when no check from 1 to 5 refuses and the reduction of an eligible interval exceeds the room for it: at the
 -- first such interval, and where no REACH stands before it. REACH has the like, above.
@@ -187,7 +187,7 @@ pub derate-exactly-when-exceeded :
     (h : Hour) (isExcluded : Bool) (expected : Expected) (room i : ℕ)
     → (reply h isExcluded expected room ≡ refused DERATE (i + 1)) ↔ (WholeHour h expected × FirstExceeded h isExcluded i)
 derate-exactly-when-exceeded h isExcluded expected room i =
-    Iff·trans (stop-given (generator h isExcluded expected) room DERATE refl i) (Iff·and (whole-when h expected) (first-exceeded h isExcluded i))
+    Iff·trans (stop-given (generator h isExcluded expected) room DERATE refl i) (Iff·and (whole-when (partsOf h) expected) (first-exceeded h isExcluded i))
 
 -- So an hour is refused for derate exactly when no check from 1 to 5 refuses it, the reduction of some eligible interval exceeds the room
 -- for it, and no reach refusal falls before that interval.
@@ -195,7 +195,7 @@ pub refused-for-derate-exactly-when-some-reduction-exceeds :
     (h : Hour) (isExcluded : Bool) (expected : Expected) (room : ℕ)
     → ((place : ℕ) × (reply h isExcluded expected room ≡ refused DERATE place)) ↔ (WholeHour h expected × ExceededBeforeReach h isExcluded)
 refused-for-derate-exactly-when-some-reduction-exceeds h isExcluded expected room =
-    Iff·trans (some-given (generator h isExcluded expected) room DERATE refl) (Iff·and (whole-when h expected) (some-exceeded h isExcluded))
+    Iff·trans (some-given (generator h isExcluded expected) room DERATE refl) (Iff·and (whole-when (partsOf h) expected) (some-exceeded h isExcluded))
 
 -- ROOM is given exactly when no other check refuses and the lent row is shorter than the interval count, at 0.
 pub room-exactly-when-short :
@@ -204,7 +204,7 @@ pub room-exactly-when-short :
     ↔ (WholeHour h expected × (intervals h isExcluded ≡ clear) × (place ≡ 0) × (room < h .n))
 room-exactly-when-short h isExcluded expected room place =
     let it = room-given (generator h isExcluded expected) room place refl refl in
-    (λ e. let w = it .0 e in (whole-when h expected .0 (w .0), w .1, w .2, w .3), λ w. it .1 (whole-when h expected .1 (w .0), w .1, w .2, w .3))
+    (λ e. let w = it .0 e in (whole-when (partsOf h) expected .0 (w .0), w .1, w .2, w .3), λ w. it .1 (whole-when (partsOf h) expected .1 (w .0), w .1, w .2, w .3))
 
 -- ---- the lent row
 

@@ -1,4 +1,4 @@
--- What each check over the block finds, in the words of the demands. RANGE and CURVE go line by line: such a fault is given exactly when a
+-- What each check over a block of any kind of hour finds, in the words of the demands. RANGE and CURVE go line by line: such a fault is given exactly when a
 -- line fails the test, and at the first that does.
 use mathlib.Core.Path.{_≡_, refl, sym, _∙_, ap}
 use mathlib.Core.Bool.{Bool, false, false≢true}
@@ -10,12 +10,10 @@ use lib.IntN.{ℤ, pos}
 use Rattle.exact.specs.Whole.{eqZ, sumTo}
 use Rattle.exact.proofs.Apart.{impossible}
 use Rattle.exact.proofs.Parts.{true-eqZ, false-eqZ}
-use Rattle.tariff.specs.declared.Hour.{Hour}
 use Rattle.tariff.specs.declared.Expected.{Expected}
 use Rattle.tariff.specs.declared.Expected.the-variants.{Any, Says}
-use Rattle.tariff.specs.Sheet.{intervalInRange}
 use Rattle.tariff.specs.Reply.{RANGE, CURVE, Verdict, fault, unless, _then_, firstOf, ORDER, SECONDS}
-use Rattle.tariff.specs.Hour.{interval, range, curves, order, secondsSum}
+use Rattle.tariff.specs.Checks.{rangeIn, orderIn, curvesIn, secondsIn, Parts, rangeOf, orderOf, curvesOf, secondsOf}
 use Rattle.tariff.specs.Demand.{lineInRange, lineKeeps, FirstLine, FirstOutOfRange, FirstCurveBroken, SaysAnotherHour}
 use Rattle.tariff.proofs.Checks.{then-assoc, unless-clear, unless-when, first-same, first-behind, first-fault, fault-first, never-clear}
 
@@ -39,57 +37,57 @@ module _ (test : ℕ → Bool) (number : ℕ) where
 
 -- ---- the lines of a block are tested in their order
 
-module _ (h : Hour) (expected : Expected) where
-  range-lines : range h expected ≡ firstOf (lineFault (lineInRange h expected) RANGE) (suc (h .n + 3))
-  unfolding range firstOf
+module _ (p : Parts) (expected : Expected) where
+  range-lines : rangeOf p expected ≡ firstOf (lineFault (lineInRange p expected) RANGE) (suc (p .n + 3))
+  unfolding rangeIn firstOf
   range-lines =
-      let all = first-behind check 4 (h .n) in
-      let count : 4 + h .n ≡ suc (h .n + 3) = omega arith in
-      ap (λ (v : Verdict). check 1 then check 2 then check 3 then v) (first-same _ (λ i. check (4 + i)) (h .n) (λ i u. same i))
+      let all = first-behind check 4 (p .n) in
+      let count : 4 + p .n ≡ suc (p .n + 3) = omega arith in
+      ap (λ (v : Verdict). check 1 then check 2 then check 3 then v) (first-same _ (λ i. check (4 + i)) (p .n) (λ i u. same i))
       ∙ sym (simp then-assoc at all)
       ∙ ap (firstOf check) count
     where
       check : ℕ → Verdict
-      check = lineFault (lineInRange h expected) RANGE
+      check = lineFault (lineInRange p expected) RANGE
 
-      same : (i : ℕ) → unless (intervalInRange (interval h i)) RANGE (i + 4) ≡ check (4 + i)
+      same : (i : ℕ) → unless (p .intervalInRange i) RANGE (i + 4) ≡ check (4 + i)
       same i =
           let four : i + 4 ≡ suc (suc (suc (suc i))) = add-four i in
           let turned : 4 + i ≡ suc (suc (suc (suc i))) = omega arith in
           rw (four, turned)
 
-  pub range-finds : (line : ℕ) → (range h expected ≡ fault RANGE line) ↔ FirstOutOfRange h expected line
-  range-finds line = rw range-lines (line-when (lineInRange h expected) RANGE (h .n + 3) line)
+  pub range-finds : (line : ℕ) → (rangeOf p expected ≡ fault RANGE line) ↔ FirstOutOfRange p expected line
+  range-finds line = rw range-lines (line-when (lineInRange p expected) RANGE (p .n + 3) line)
 
-module _ (h : Hour) where
-  curve-lines : curves h ≡ firstOf (lineFault (lineKeeps h) CURVE) 4
-  unfolding curves firstOf
+module _ (p : Parts) where
+  curve-lines : curvesOf p ≡ firstOf (lineFault (lineKeeps p) CURVE) 4
+  unfolding curvesIn firstOf
   curve-lines = refl
 
-  pub curves-find : (line : ℕ) → (curves h ≡ fault CURVE line) ↔ FirstCurveBroken h line
-  curves-find line = rw curve-lines (line-when (lineKeeps h) CURVE 3 line)
+  pub curves-find : (line : ℕ) → (curvesOf p ≡ fault CURVE line) ↔ FirstCurveBroken p line
+  curves-find line = rw curve-lines (line-when (lineKeeps p) CURVE 3 line)
 
 -- ---- ORDER and SECONDS
 
 differ : (a b : ℤ) → (eqZ a b ≡ false) ↔ (a ≡ b → ⊥)
 differ a b = (λ e q. false≢true (sym e ∙ true-eqZ a b q), false-eqZ a b)
 
-module _ (h : Hour) (place : ℕ) where
-  pub order-finds : (expected : Expected) → (order h expected ≡ fault ORDER place) ↔ ((place ≡ 1) × SaysAnotherHour h expected)
-  unfolding order
+module _ (p : Parts) (place : ℕ) where
+  pub order-finds : (expected : Expected) → (orderOf p expected ≡ fault ORDER place) ↔ ((place ≡ 1) × SaysAnotherHour (p .hour) expected)
+  unfolding orderIn
   order-finds Any = (λ e. absurd (never-clear (sym e)), λ w. absurd (let a = w .1 .asked in impossible cc))
   order-finds (Says hour hours) =
-      let broken = unless-when (eqZ (h .hour) hour) ORDER 1 place in (
-        λ e. let w = broken .0 e in (w .1, record { hour = hour; hours = hours; asked = refl; other = differ (h .hour) hour .0 (w .0) }),
+      let broken = unless-when (eqZ (p .hour) hour) ORDER 1 place in (
+        λ e. let w = broken .0 e in (w .1, record { hour = hour; hours = hours; asked = refl; other = differ (p .hour) hour .0 (w .0) }),
         λ w.
             let same : w .1 .hour ≡ hour = let a = w .1 .asked in cc in
-            broken .1 (differ (h .hour) hour .1 (λ q. w .1 .other (q ∙ sym same)), w .0),
+            broken .1 (differ (p .hour) hour .1 (λ q. w .1 .other (q ∙ sym same)), w .0),
       )
 
-  pub seconds-find : (secondsSum h ≡ fault SECONDS place) ↔ ((place ≡ 0) × (sumTo (λ i. interval h i .s .0) (h .n) ≡ pos 3600 → ⊥))
-  unfolding secondsSum
+  pub seconds-find : (secondsOf p ≡ fault SECONDS place) ↔ ((place ≡ 0) × (sumTo (p .seconds) (p .n) ≡ pos 3600 → ⊥))
+  unfolding secondsIn
   seconds-find =
-      let sum = sumTo (λ i. interval h i .s .0) (h .n) in
+      let sum = sumTo (p .seconds) (p .n) in
       let broken = unless-when (eqZ sum (pos 3600)) SECONDS 0 place in (
         λ e. let w = broken .0 e in (w .1, differ sum (pos 3600) .0 (w .0)),
         λ w. broken .1 (differ sum (pos 3600) .1 (w .1), w .0),

@@ -7,7 +7,6 @@ pub mod Stops
 pub mod AnyHour
 pub mod Given
 pub mod Numbers
-pub mod Ordered
 pub mod Finds
 pub mod Ranges
 pub mod Curves
@@ -17,7 +16,10 @@ pub mod Shares
 pub mod Reduced
 pub mod Limits
 pub mod Others
+pub mod Branches
 pub mod Needed
+pub mod IclNeeded
+pub mod Ordered
 pub mod Alike
 pub mod ByInterval
 pub mod Answers
@@ -28,4 +30,5 @@ pub mod ImportRanges
 pub mod ImportGrains
 pub mod Imports
 pub mod Demands
+pub mod IclDemands
 pub mod Unique

@@ -1,4 +1,4 @@
--- Laws of the kilowatts that an interval must price: its outcome reads their prices alone, and stops for REACH exactly when one has none.
+-- Laws of the kilowatts that a generator's interval must price: its outcome reads their prices alone, and stops for REACH exactly when one has none.
 use mathlib.Core.Path.{_≡_, refl}
 use mathlib.Core.Bool.{Bool, true, false}
 use mathlib.Core.Logic.{_⊎_, inl, inr}
@@ -9,34 +9,15 @@ use Rattle.exact.proofs.Apart.{impossible}
 use Rattle.tariff.specs.declared.Curve.{Curve}
 use Rattle.tariff.specs.declared.Interval.{Interval}
 use Rattle.tariff.specs.declared.Hour.{Hour}
-use Rattle.tariff.specs.Curve.{Amount, known, none, quote, integral}
+use Rattle.tariff.specs.Curve.{Amount, known, none}
 use Rattle.tariff.specs.Eligible.{lags}
 use Rattle.tariff.specs.Derate.{exceedsRoom, reduced}
-use Rattle.tariff.specs.Contributions.{curveIn, lowerGrains, upperGrains, energy, lowerIn, limitIn, energyOf, otherThanEnergy}
+use Rattle.tariff.specs.Contributions.{lowerGrains, upperGrains, lowerIn, limitIn, energyOf, otherThanEnergy}
 use Rattle.tariff.specs.Reply.{DERATE, REACH}
 use Rattle.tariff.specs.Hour.{interval, withOthers, outcome, outcomeAt}
 use Rattle.tariff.specs.Outcome.{Outcome, gives, stops}
-use Rattle.tariff.specs.Demand.{Between, MustPrice, priceIn, Unpriced, DerateRefused}
-use Rattle.tariff.proofs.Curves.{Unquoted, change-none, between-flip, unquoted-flip, integral-same, unquoted-none, none-unquoted}
-
--- ---- energy, by the branch that is taken
-
-module _ (D limit pen s : ℤ) (da rt : Curve) where
-  energy-same : (lower : Bool) (da′ rt′ : Curve) → ((k : ℤ) → Between D limit k → quote (curveIn lower da rt) k ≡ quote (curveIn lower da′ rt′) k)
-      → energy lower da rt D limit pen s ≡ energy lower da′ rt′ D limit pen s
-  unfolding energy
-  energy-same true da′ rt′ h = rw (integral-same da da′ limit D (λ k w. h k (between-flip limit D k w)))
-  energy-same false da′ rt′ h = rw (integral-same rt rt′ D limit h)
-
-  energy-none : (lower : Bool) → Unquoted (curveIn lower da rt) D limit → energy lower da rt D limit pen s ≡ none
-  unfolding energy
-  energy-none true m = rw (unquoted-none da limit D (unquoted-flip da D limit m))
-  energy-none false m = rw (unquoted-none rt D limit m)
-
-  none-energy : (lower : Bool) → energy lower da rt D limit pen s ≡ none → Unquoted (curveIn lower da rt) D limit
-  unfolding energy
-  none-energy true e = unquoted-flip da limit D (none-unquoted da limit D (change-none (lowerGrains D limit pen s) (integral da limit D) e))
-  none-energy false e = none-unquoted rt D limit (change-none (upperGrains D limit pen s) (integral rt D limit) e)
+use Rattle.tariff.specs.Demand.{MustPrice, priceIn, Unpriced, DerateRefused}
+use Rattle.tariff.proofs.Branches.{energy-same, energy-none, none-energy}
 
 -- ---- an outcome, by its tests
 
@@ -90,6 +71,12 @@ module _ (h : Hour) (isExcluded : Bool) (i : ℕ) where
   abbrev lower : Bool
   lower = lowerIn (h .ahead) own
 
+  abbrev below : ℤ → ℤ
+  below = lowerGrains D limit (own .pen .0) (own .s .0)
+
+  abbrev above : ℤ → ℤ
+  above = upperGrains D limit (own .pen .0) (own .s .0)
+
   abbrev others : ℤ
   others = otherThanEnergy (h .ahead) own
 
@@ -101,7 +88,7 @@ module _ (h : Hour) (isExcluded : Bool) (i : ℕ) where
   unfolding outcomeAt outcome
   outcome-same da rt u same =
       staged-same isExcluded _ _ others (amountBy (h .da) (h .rt)) (amountBy da rt)
-      (λ x l d. energy-same D limit (own .pen .0) (own .s .0) (h .da) (h .rt) lower da rt
+      (λ x l d. energy-same D limit below above (h .da) (h .rt) lower da rt
       (λ k w. same k (record { counted = u; eligible = x; notLagging = l; noDerate = d; needed = w })))
 
   -- an interval is stopped by DERATE or by REACH
@@ -113,14 +100,14 @@ module _ (h : Hour) (isExcluded : Bool) (i : ℕ) where
   unfolding outcomeAt outcome
   unpriced-unreached w =
       let m = w .needed in
-      let e = energy-none D limit (own .pen .0) (own .s .0) (h .da) (h .rt) lower (record { kilowatt = w .kilowatt; needed = m .needed; missing = w .missing }) in
+      let e = energy-none D limit below above (h .da) (h .rt) lower (record { kilowatt = w .kilowatt; needed = m .needed; missing = w .missing }) in
       rw (m .eligible, m .notLagging, m .noDerate, e)
 
   pub unreached-unpriced : i < h .n → outcomeAt h isExcluded i ≡ stops REACH → Unpriced h isExcluded i
   unfolding outcomeAt outcome
   unreached-unpriced u e =
       let s = staged-unreached isExcluded _ _ others (amountBy (h .da) (h .rt)) e in
-      let m = none-energy D limit (own .pen .0) (own .s .0) (h .da) (h .rt) lower (s .3) in
+      let m = none-energy D limit below above (h .da) (h .rt) lower (s .3) in
       record {
         kilowatt = m .kilowatt;
         needed = record { counted = u; eligible = s .0; notLagging = s .1; noDerate = s .2; needed = m .needed };

@@ -9,14 +9,16 @@ use lib.IntN.{ℤ, pos, negℤ}
 use lib.Signed.{_≤ℤ_, leZ}
 use Rattle.exact.specs.Whole.{under, Within}
 use Rattle.exact.proofs.Parts.{arithℤ, apart}
+use Rattle.tariff.specs.declared.Kw.{Kw}
 use Rattle.tariff.specs.declared.Curve.{Curve}
 use Rattle.tariff.specs.declared.DayAhead.{DayAhead}
 use Rattle.tariff.specs.declared.Interval.{Interval}
-use Rattle.tariff.specs.declared.Hour.{Hour}
+use Rattle.tariff.specs.declared.IclInterval.{IclInterval}
 use Rattle.tariff.specs.declared.Expected.{Expected}
 use Rattle.tariff.specs.Sheet.{liesIn, isSeconds, isHour, isPower, isCapacity, isBid, isPrice, endOf, priceOf, allTo, aheadInRange, stepInRange, curveInRange, uolInRange, intervalInRange}
 use Rattle.tariff.specs.Reply.{FORM, RANGE, Verdict, clear, unless, _then_, firstOf}
-use Rattle.tariff.specs.Hour.{interval, hoursAround, form, range}
+use Rattle.tariff.specs.Controllable.{iclAheadInRange, iclIntervalInRange}
+use Rattle.tariff.specs.Checks.{formIn, rangeIn, Parts, hoursAround, formOf, rangeOf}
 use Rattle.tariff.proofs.Checks.{then-clear, unless-clear, first-clear}
 use Rattle.tariff.proofs.Tests.{and-left, and-right, and-both, all-at}
 
@@ -97,6 +99,25 @@ pub uol-fits : (v : Interval) → intervalInRange v ≡ true → uolInRange (v .
 unfolding intervalInRange
 uol-fits v e = let h = simp and-eq-true-iff at e in search h
 
+-- ---- an internal controllable line's
+
+pub record IclIntervalFits (v : IclInterval) : Type 0 where
+  pub s : Within 900 (v .s .0)
+  pub en : Within 2000000 (v .en .0)
+  pub aei : Within 2000000 (v .aei .0)
+  pub aew : Within 2000000 (v .aew .0)
+  pub pin : Within 1000000 (v .pin .0)
+  pub pout : Within 1000000 (v .pout .0)
+
+pub icl-interval-fits : (v : IclInterval) → iclIntervalInRange v ≡ true → IclIntervalFits v
+unfolding iclIntervalInRange
+icl-interval-fits v e = let h = simp and-eq-true-iff at e in search (seconds-within, power-within, price-within, and-both)
+
+pub icl-ahead-fits : (dasi dasw : Kw) → iclAheadInRange dasi dasw ≡ true → Within 2000000 (dasi .0) × Within 2000000 (dasw .0)
+unfolding iclAheadInRange
+icl-ahead-fits dasi dasw e =
+    (power-within (and-left (isPower (dasi .0)) (isPower (dasw .0)) e), power-within (and-right (isPower (dasi .0)) (isPower (dasw .0)) e))
+
 -- ---- a curve
 
 pub record CurveFits (c : Curve) : Type 0 where
@@ -126,28 +147,33 @@ module _ (c : Curve) (e : curveInRange c ≡ true) where
 
 -- ---- checks 1 and 2, where they find nothing
 
-pub form-says : (h : Hour) → form h ≡ clear → (h .da .n ≤ 12) × (h .rt .n ≤ 12) × (h .n ≤ 30)
-unfolding form
-form-says h e =
-    let da : Verdict = unless (leb (h .da .n) 12) FORM 2 in
-    let rt : Verdict = unless (leb (h .rt .n) 12) FORM 3 in
-    let n : Verdict = unless (leb (h .n) 30) FORM 34 in
+pub form-says : (p : Parts) → formOf p ≡ clear → (p .da .n ≤ 12) × (p .rt .n ≤ 12) × (p .n ≤ 30)
+unfolding formIn
+form-says b e =
+    let da : Verdict = unless (leb (b .da .n) 12) FORM 2 in
+    let rt : Verdict = unless (leb (b .rt .n) 12) FORM 3 in
+    let n : Verdict = unless (leb (b .n) 30) FORM 34 in
     let p = then-clear da (rt then n) e in
     let q = then-clear rt n (p .1) in
     (leb-true _ _ (unless-clear _ FORM 2 (p .0)), leb-true _ _ (unless-clear _ FORM 3 (q .0)), leb-true _ _ (unless-clear _ FORM 34 (q .1)))
 
-pub range-says : (h : Hour) (expected : Expected) → range h expected ≡ clear → (isHour (hoursAround expected) (h .hour) ≡ true) × (aheadInRange (h .ahead) ≡ true) × (curveInRange (h .da) ≡ true) × (curveInRange (h .rt) ≡ true) × ((i : ℕ) → i < h .n → intervalInRange (interval h i) ≡ true)
-unfolding range
-range-says h expected e =
-    let first = isHour (hoursAround expected) (h .hour) && aheadInRange (h .ahead) in
-    let each : ℕ → Verdict = λ i. unless (intervalInRange (interval h i)) RANGE (i + 4) in
-    let p = then-clear (unless first RANGE 1) (unless (curveInRange (h .da)) RANGE 2 then unless (curveInRange (h .rt)) RANGE 3 then firstOf each (h .n)) e in
-    let q = then-clear (unless (curveInRange (h .da)) RANGE 2) (unless (curveInRange (h .rt)) RANGE 3 then firstOf each (h .n)) (p .1) in
-    let r = then-clear (unless (curveInRange (h .rt)) RANGE 3) (firstOf each (h .n)) (q .1) in
+pub range-says : (p : Parts) (expected : Expected) → rangeOf p expected ≡ clear
+    → (isHour (hoursAround expected) (p .hour) ≡ true)
+    × (p .aheadInRange ≡ true)
+    × (curveInRange (p .da) ≡ true)
+    × (curveInRange (p .rt) ≡ true)
+    × ((i : ℕ) → i < p .n → p .intervalInRange i ≡ true)
+unfolding rangeIn
+range-says b expected e =
+    let first = isHour (hoursAround expected) (b .hour) && b .aheadInRange in
+    let each : ℕ → Verdict = λ i. unless (b .intervalInRange i) RANGE (i + 4) in
+    let p = then-clear (unless first RANGE 1) (unless (curveInRange (b .da)) RANGE 2 then unless (curveInRange (b .rt)) RANGE 3 then firstOf each (b .n)) e in
+    let q = then-clear (unless (curveInRange (b .da)) RANGE 2) (unless (curveInRange (b .rt)) RANGE 3 then firstOf each (b .n)) (p .1) in
+    let r = then-clear (unless (curveInRange (b .rt)) RANGE 3) (firstOf each (b .n)) (q .1) in
     let line1 = unless-clear first RANGE 1 (p .0) in (
-      and-left (isHour (hoursAround expected) (h .hour)) (aheadInRange (h .ahead)) line1,
-      and-right (isHour (hoursAround expected) (h .hour)) (aheadInRange (h .ahead)) line1,
+      and-left (isHour (hoursAround expected) (b .hour)) (b .aheadInRange) line1,
+      and-right (isHour (hoursAround expected) (b .hour)) (b .aheadInRange) line1,
       unless-clear _ RANGE 2 (q .0),
       unless-clear _ RANGE 3 (r .0),
-      λ i u. unless-clear _ RANGE (i + 4) (first-clear each (h .n) (r .1) i u),
+      λ i u. unless-clear _ RANGE (i + 4) (first-clear each (b .n) (r .1) i u),
     )

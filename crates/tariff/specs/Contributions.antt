@@ -56,12 +56,13 @@ lowerGrains D LL pen s cost = ((D -ℤ LL) *ℤ pen -ℤ cost) *ℤ s
 abbrev pub upperGrains : (D UL pen s : ℤ) → ℤ → ℤ
 upperGrains D UL pen s cost = minℤ (((D -ℤ UL) *ℤ pen +ℤ cost) *ℤ s) (pos 0)
 
--- by the branch and its limit; none where a kilowatt to be priced has no price
-unfoldable pub energy : (lower : Bool) → (da rt : Curve) → (D limit pen s : ℤ) → Amount
-energy lower da rt D limit pen s =
-    if lower
-    then change (lowerGrains D limit pen s) (integral da limit D)
-    else change (upperGrains D limit pen s) (integral rt D limit)
+-- by the branch: the lower one makes grains of what the day-ahead curve costs from its limit to D, the upper one of what the real-time
+-- curve costs from D to its limit; none where a kilowatt to be priced has no price
+unfoldable pub energyBy : (lower : Bool) → (da rt : Curve) → (D limit : ℤ) → (below above : ℤ → ℤ) → Amount
+energyBy lower da rt D limit below above = if lower then change below (integral da limit D) else change above (integral rt D limit)
+
+abbrev pub energy : (lower : Bool) → (da rt : Curve) → (D limit pen s : ℤ) → Amount
+energy lower da rt D limit pen s = energyBy lower da rt D limit (lowerGrains D limit pen s) (upperGrains D limit pen s)
 
 -- ---- reserves, regulation and movement: d and r are the day-ahead and the real-time schedule
 

@@ -9,13 +9,15 @@ use Rattle.tariff.specs.declared.Curve.{Curve}
 use Rattle.tariff.specs.declared.Hour.{Hour}
 use Rattle.tariff.specs.declared.Expected.{Expected}
 use Rattle.tariff.specs.declared.Expected.the-variants.{Says}
-use Rattle.tariff.specs.Sheet.{isHour, aheadInRange, curveInRange, intervalInRange, curveKeeps}
+use Rattle.tariff.specs.Sheet.{isHour, curveInRange, curveKeeps}
 use Rattle.tariff.specs.Curve.{Amount, known, none, quote}
 use Rattle.tariff.specs.Reply.{clear}
 use Rattle.tariff.specs.Eligible.{lags}
 use Rattle.tariff.specs.Derate.{exceedsRoom, reduced}
 use Rattle.tariff.specs.Contributions.{curveIn, lowerIn, limitIn}
-use Rattle.tariff.specs.Hour.{interval, hoursAround, form, range, order, curves, secondsSum, intervals}
+use Rattle.tariff.specs.Checks.{Parts, hoursAround, formOf, rangeOf, orderOf, curvesOf, secondsOf}
+use Rattle.tariff.specs.Outcome.{Outcome, firstStop}
+use Rattle.tariff.specs.Hour.{interval, partsOf, outcomeAt}
 
 -- kilowatt k lies between a and b, whichever is the greater
 pub record Between (a b k : ℤ) : Type 0 where
@@ -71,23 +73,23 @@ pub record ExceededBeforeReach (h : Hour) (isExcluded : Bool) : Type 0 where
   pub here : DerateRefused h isExcluded at
   pub noReachBefore : (j : ℕ) → j < at → Unpriced h isExcluded j → ⊥
 
--- ---- the lines of a block: 1 has the hour and the day-ahead schedules, 2 and 3 the two curves, i + 4 interval i. There is no line 0
+-- ---- the lines of a block of any kind of hour: 1 has the hour and the day-ahead schedules, 2 and 3 the two curves, i + 4 interval i. There is no line 0
 
 -- a line's numbers are in their ranges
-abbrev pub lineInRange : Hour → Expected → ℕ → Bool
-lineInRange h expected zero = true
-lineInRange h expected (suc zero) = isHour (hoursAround expected) (h .hour) && aheadInRange (h .ahead)
-lineInRange h expected (suc (suc zero)) = curveInRange (h .da)
-lineInRange h expected (suc (suc (suc zero))) = curveInRange (h .rt)
-lineInRange h expected (suc (suc (suc (suc i)))) = intervalInRange (interval h i)
+abbrev pub lineInRange : Parts → Expected → ℕ → Bool
+lineInRange p expected zero = true
+lineInRange p expected (suc zero) = isHour (hoursAround expected) (p .hour) && p .aheadInRange
+lineInRange p expected (suc (suc zero)) = curveInRange (p .da)
+lineInRange p expected (suc (suc (suc zero))) = curveInRange (p .rt)
+lineInRange p expected (suc (suc (suc (suc i)))) = p .intervalInRange i
 
 -- a line breaks no rule of a curve
-abbrev pub lineKeeps : Hour → ℕ → Bool
-lineKeeps h zero = true
-lineKeeps h (suc zero) = true
-lineKeeps h (suc (suc zero)) = curveKeeps (h .da)
-lineKeeps h (suc (suc (suc zero))) = curveKeeps (h .rt)
-lineKeeps h (suc (suc (suc (suc i)))) = true
+abbrev pub lineKeeps : Parts → ℕ → Bool
+lineKeeps p zero = true
+lineKeeps p (suc zero) = true
+lineKeeps p (suc (suc zero)) = curveKeeps (p .da)
+lineKeeps p (suc (suc (suc zero))) = curveKeeps (p .rt)
+lineKeeps p (suc (suc (suc (suc i)))) = true
 
 -- of the lines 1 to `last`, `line` is the first that fails the test
 pub record FirstLine (test : ℕ → Bool) (last line : ℕ) : Type 0 where
@@ -96,39 +98,49 @@ pub record FirstLine (test : ℕ → Bool) (last line : ℕ) : Type 0 where
   pub first : (j : ℕ) → j < line → test j ≡ true
 
 -- `line` is the first with a number outside its range: a block has three lines and one for each interval
-abbrev pub FirstOutOfRange : Hour → Expected → ℕ → Type 0
-FirstOutOfRange h expected = FirstLine (lineInRange h expected) (h .n + 3)
+abbrev pub FirstOutOfRange : Parts → Expected → ℕ → Type 0
+FirstOutOfRange p expected = FirstLine (lineInRange p expected) (p .n + 3)
 
 -- `line`, 2 or 3, is the first whose curve breaks a rule
-abbrev pub FirstCurveBroken : Hour → ℕ → Type 0
-FirstCurveBroken h = FirstLine (lineKeeps h) 3
+abbrev pub FirstCurveBroken : Parts → ℕ → Type 0
+FirstCurveBroken p = FirstLine (lineKeeps p) 3
 
 -- an hour is expected, and the block says another
-pub record SaysAnotherHour (h : Hour) (expected : Expected) : Type 0 where
+pub record SaysAnotherHour (said : ℤ) (expected : Expected) : Type 0 where
   pub hour : ℤ
   pub hours : ℕ
   pub asked : expected ≡ Says hour hours
-  pub other : h .hour ≡ hour → ⊥
+  pub other : said ≡ hour → ⊥
 
--- ---- checks that find no fault
+-- ---- checks that find no fault, of any kind of hour
 
 -- form, ranges, order and curves are as they must be
-pub record Lawful (h : Hour) (expected : Expected) : Type 0 where
-  pub form : form h ≡ clear
-  pub range : range h expected ≡ clear
-  pub order : order h expected ≡ clear
-  pub curves : curves h ≡ clear
+pub record LawfulBlock (p : Parts) (expected : Expected) : Type 0 where
+  pub form : formOf p ≡ clear
+  pub range : rangeOf p expected ≡ clear
+  pub order : orderOf p expected ≡ clear
+  pub curves : curvesOf p ≡ clear
 
 -- and the seconds make a whole hour: no check over the block refuses
-pub record WholeHour (h : Hour) (expected : Expected) : Type 0 where
-  pub lawful : Lawful h expected
-  pub seconds : secondsSum h ≡ clear
+pub record WholeBlock (p : Parts) (expected : Expected) : Type 0 where
+  pub lawful : LawfulBlock p expected
+  pub seconds : secondsOf p ≡ clear
 
 -- no check refuses: none over the block, none in any interval, and the lent row has an entry for each interval
-pub record Passes (h : Hour) (isExcluded : Bool) (expected : Expected) (room : ℕ) : Type 0 where
-  pub whole : WholeHour h expected
-  pub intervals : intervals h isExcluded ≡ clear
-  pub fits : h .n ≤ room
+pub record PassesAll (p : Parts) (outcome : ℕ → Outcome) (expected : Expected) (room : ℕ) : Type 0 where
+  pub whole : WholeBlock p expected
+  pub intervals : firstStop outcome (p .n) ≡ clear
+  pub fits : p .n ≤ room
+
+-- a generator's
+abbrev pub Lawful : Hour → Expected → Type 0
+Lawful h = LawfulBlock (partsOf h)
+
+abbrev pub WholeHour : Hour → Expected → Type 0
+WholeHour h = WholeBlock (partsOf h)
+
+abbrev pub Passes : Hour → (isExcluded : Bool) → Expected → (room : ℕ) → Type 0
+Passes h isExcluded = PassesAll (partsOf h) (outcomeAt h isExcluded)
 
 -- ---- two hours, and two curves
 

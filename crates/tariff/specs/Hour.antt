@@ -1,21 +1,19 @@
 -- The hour: its checks in their order, the contributions of its intervals, the reply, and the lent row.
-use mathlib.Core.Bool.{Bool, _&&_}
+use mathlib.Core.Bool.{Bool}
 use mathlib.Core.List.{List}
-use Prim.Native.Nat.{ℕ, _+_}
-use lib.Dec.{leb}
+use Prim.Native.Nat.{ℕ}
 use lib.ListN.{getD}
 use lib.IntN.{ℤ, pos, _+ℤ_}
 use Rattle.exact.specs.Choice.{if_then_else_}
-use Rattle.exact.specs.Whole.{eqZ, sumTo}
 use Rattle.tariff.specs.declared.Hour.{Hour}
 use Rattle.tariff.specs.declared.Interval.{Interval}
 use Rattle.tariff.specs.declared.Uol.the-variants.{Missing}
 use Rattle.tariff.specs.declared.Expected.{Expected}
-use Rattle.tariff.specs.declared.Expected.the-variants.{Any, Says}
 use Rattle.tariff.specs.Units.{kw, price, movePrice, seconds}
-use Rattle.tariff.specs.Sheet.{LONGEST-DAY, isHour, aheadInRange, curveInRange, intervalInRange, curveKeeps}
+use Rattle.tariff.specs.Sheet.{aheadInRange, intervalInRange}
 use Rattle.tariff.specs.Curve.{Amount, known, none}
-use Rattle.tariff.specs.Reply.{Reply, FORM, RANGE, ORDER, CURVE, SECONDS, DERATE, REACH, Verdict, clear, unless, _then_, firstOf}
+use Rattle.tariff.specs.Reply.{Reply, DERATE, REACH, Verdict}
+use Rattle.tariff.specs.Checks.{Parts, formOf, rangeOf, orderOf, curvesOf, secondsOf, faultOf}
 use Rattle.tariff.specs.Outcome.{Outcome, gives, stops, firstStop, amount, sumBy, replyBy, rowBy}
 use Rattle.tariff.specs.Eligible.{lags}
 use Rattle.tariff.specs.Derate.{exceedsRoom}
@@ -51,33 +49,35 @@ blank =
 abbrev pub interval : Hour → ℕ → Interval
 interval h i = getD (h .iv) i blank
 
--- ---- checks 1 to 5, over the whole block. Line 1 has the schedules, 2 and 3 the curves, 4 the first interval
+-- ---- checks 1 to 5, over the whole block
 
--- a curve has at most 12 steps, and a block at most 30 intervals: line 34 would be one too many
-unfoldable pub form : Hour → Verdict
-form h = unless (leb (h .da .n) 12) FORM 2 then unless (leb (h .rt .n) 12) FORM 3 then unless (leb (h .n) 30) FORM 34
+-- what they read of it
+abbrev pub partsOf : Hour → Parts
+partsOf h =
+    record {
+      hour = h .hour;
+      aheadInRange = aheadInRange (h .ahead);
+      da = h .da;
+      rt = h .rt;
+      n = h .n;
+      intervalInRange = λ i. intervalInRange (interval h i);
+      seconds = λ i. interval h i .s .0;
+    }
 
--- the hours of the day that a block stands in; one that stands in none may say any hour of the longest
-abbrev pub hoursAround : Expected → ℕ
-hoursAround Any = LONGEST-DAY
-hoursAround (Says hour hours) = hours
+abbrev pub form : Hour → Verdict
+form h = formOf (partsOf h)
 
-unfoldable pub range : Hour → Expected → Verdict
-range h expected =
-    unless (isHour (hoursAround expected) (h .hour) && aheadInRange (h .ahead)) RANGE 1
-    then unless (curveInRange (h .da)) RANGE 2
-    then unless (curveInRange (h .rt)) RANGE 3
-    then firstOf (λ i. unless (intervalInRange (interval h i)) RANGE (i + 4)) (h .n)
+abbrev pub range : Hour → Expected → Verdict
+range h = rangeOf (partsOf h)
 
-unfoldable pub order : Hour → Expected → Verdict
-order h Any = clear
-order h (Says hour hours) = unless (eqZ (h .hour) hour) ORDER 1
+abbrev pub order : Hour → Expected → Verdict
+order h = orderOf (partsOf h)
 
-unfoldable pub curves : Hour → Verdict
-curves h = unless (curveKeeps (h .da)) CURVE 2 then unless (curveKeeps (h .rt)) CURVE 3
+abbrev pub curves : Hour → Verdict
+curves h = curvesOf (partsOf h)
 
-unfoldable pub secondsSum : Hour → Verdict
-secondsSum h = unless (eqZ (sumTo (λ i. interval h i .s .0) (h .n)) (pos 3600)) SECONDS 0
+abbrev pub secondsSum : Hour → Verdict
+secondsSum h = secondsOf (partsOf h)
 
 -- ---- checks 6 and 7, interval by interval, 6 before 7 in each
 
@@ -112,7 +112,7 @@ hourSum h isExcluded = sumBy (outcomeAt h isExcluded) (h .n)
 
 -- faults 1 to 5
 abbrev pub blockFault : Hour → Expected → Verdict
-blockFault h expected = form h then range h expected then order h expected then curves h then secondsSum h
+blockFault h = faultOf (partsOf h)
 
 abbrev pub reply : Hour → Bool → Expected → (room : ℕ) → Reply
 reply h isExcluded expected = replyBy (blockFault h expected) (outcomeAt h isExcluded) (h .n)

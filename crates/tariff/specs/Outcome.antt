@@ -7,12 +7,18 @@ use lib.ListN.{length, drop}
 use lib.IntN.{ℤ, pos}
 use Rattle.exact.specs.Whole.{upTo, sumTo}
 use Rattle.tariff.specs.Units.{centsOf}
-use Rattle.tariff.specs.Reply.{Reply, paid, refused, ROOM, Verdict, clear, fault, unless, _then_, otherwise, firstOf}
+use Rattle.tariff.specs.Curve.{Amount, known, none}
+use Rattle.tariff.specs.Reply.{Reply, paid, refused, REACH, ROOM, Verdict, clear, fault, unless, _then_, otherwise, firstOf}
 
 -- an interval gives grains, or a check stops the hour there
 pub data Outcome : Type 0 where
   gives : ℤ → Outcome
   stops : (number : ℕ) → Outcome
+
+-- an amount that is known is given; where a price is missing the hour stops
+abbrev pub orReach : Amount → Outcome
+orReach (known grains) = gives grains
+orReach none = stops REACH
 
 -- ---- the checks that go interval by interval: the first that is stopped refuses the hour, at its own number from 1
 

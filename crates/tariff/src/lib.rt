@@ -196,6 +196,29 @@ pub struct ImportHour {
     pub iv: [Curtailed; 30],
 }
 
+// An interval line of an internal controllable line, an ICL: its real-time schedule, the energy that it injected and withdrew, and the prices at
+// its injection and its withdrawal bus.
+pub struct IclInterval {
+    pub s: Seconds,
+    pub en: Kw,
+    pub aei: Kw,
+    pub aew: Kw,
+    pub pin: Price,
+    pub pout: Price,
+}
+
+// The record of an ICL's hour block: the day-ahead schedules for injection and withdrawal, its two bid curves, and `n` intervals, the
+// first of `iv`.
+pub struct IclHour {
+    pub hour: i64,
+    pub dasi: Kw,
+    pub dasw: Kw,
+    pub da: Curve,
+    pub rt: Curve,
+    pub n: usize,
+    pub iv: [IclInterval; 30],
+}
+
 // What an import's block is worth: its part of the day's sum, or the check that refuses it.
 pub enum Worth {
     Part(Grains),

@@ -35,6 +35,7 @@ fn measure() -> io::Result<Report> {
     Ok(Report {
         machine,
         hours: sheets.blocks.len(),
+        line_bytes: sheets.lines[0].len(),
         bytes: COUNTS.map(|count| sheets.bytes_of(count)),
         blocks: blocks::measure(&sheets, &folder)?,
         programs: programs::measure(&root, &files)?,

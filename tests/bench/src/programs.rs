@@ -48,6 +48,7 @@ pub fn measure(root: &Path, files: &Files) -> io::Result<Vec<Program>> {
         ("`hour`", "hour", 1, &files.blocks),
         ("`day`", "day", HOURS, &files.days),
         ("`day`, 25 hours", "day", LONGEST, &files.long_days),
+        ("`line`", "line", HOURS, &files.lines),
     ] {
         let bin = root.join("target/bin").join(program);
         let second = root.join("tests/second/target/release");

@@ -12,8 +12,11 @@ use crate::timing::{Growth, COUNTS};
 pub struct Report {
     /// The kind of machine.
     pub machine: String,
-    /// How many different hour blocks there are.
+    /// How many different hour blocks there are of a plant, and as many of a
+    /// controllable line.
     pub hours: usize,
+    /// How many bytes the first day of a controllable line has.
+    pub line_bytes: usize,
     /// How many bytes the blocks of 1 to 1,000 sheets have.
     pub bytes: [usize; COUNTS.len()],
     /// The block call over these blocks.
@@ -30,8 +33,9 @@ const HEAD: &str = "\
 `sh tests/bench/run` measures and writes this page. Ratios first: the absolute figures are this machine's.
 
 The sheets are days of a plant, every hour of 30 intervals with two curves of 12 steps, all paid; of form 1, and where 25 hours
-are named of form 2, with the same 24 hours and one more. Everything goes over the same bytes in the same run, built for release
-and warmed, in turn and in several rounds; a figure is their median. The second program is the independent one of tests/second,
+are named of form 2, with the same 24 hours and one more. Those of `line` are days of an internal controllable line: 24 hours with
+as many intervals and steps, all marked and each paid more than 0. Everything goes over the same bytes in the same run, built for
+release and warmed, in turn and in several rounds; a figure is their median. The second program is the independent one of tests/second,
 `wc -l` a yardstick that only counts lines. No time is judged anywhere.
 ";
 
@@ -76,10 +80,13 @@ fn rate(
 impl fmt::Display for Report {
     fn fmt(&self, out: &mut fmt::Formatter<'_>) -> fmt::Result {
         let Report { machine, hours, .. } = self;
-        let average = self.bytes[0] / HOURS;
+        let [plant, line] = [self.bytes[0], self.line_bytes].map(|bytes| bytes / HOURS);
         writeln!(out, "{HEAD}")?;
         writeln!(out, "- Machine: {machine}.")?;
-        writeln!(out, "- Hours: {hours} different ones of some {average} bytes; longer runs go over them again.")?;
+        writeln!(
+            out,
+            "- Hours: {hours} different ones of some {plant} bytes, and as many of `line` of some {line}; longer runs go over them again."
+        )?;
         self.ratios(out)?;
         self.rates(out)?;
         self.growth(out)?;

@@ -1,10 +1,11 @@
 //! Day sheets: how they are made.
 
 use second::day::Marks;
-use second::text::{number, HOUR};
+use second::record::Unit;
 use second::{day, Curve, DayAhead, Header, HourRecord, Interval};
 
-use crate::damage::{self, set_value, Sheet};
+use crate::bonds::{Bond, Pair};
+use crate::days;
 use crate::events;
 use crate::headers::{self, plain};
 use crate::hour;
@@ -12,7 +13,7 @@ use crate::hours::{self, still};
 use crate::pieces::{self, any_said, count, each_hour, said};
 use crate::plan::{recipe, Program, Recipe};
 use crate::random::Rng;
-use crate::same::{self, Bond, Pair};
+use crate::same;
 use crate::written::Written;
 
 /// The program `day`.
@@ -22,7 +23,7 @@ pub const PROGRAM: Program = Program {
     answer: |text, run| Written::Answer(day::program(text, run)),
     wanted: events::of_day,
     outcome,
-    outcomes: || pieces::outcomes(|said| says(plain(said).to_text().as_bytes())),
+    outcomes: || pieces::outcomes(&pieces::SAID, |said| says(plain(said).to_text().as_bytes())),
     ends_at_empty_line: false,
     pair: Some(pair),
     back: None,
@@ -59,16 +60,7 @@ fn says(text: &[u8]) -> String {
 }
 
 fn outcome(text: &[u8], answer: &str) -> Option<String> {
-    let mut lines = answer.lines().rev();
-    let total = lines.next()?.strip_prefix("total=")?;
-    let last = lines.next()?.split_once(" refused=");
-    let outcome = match last.map(|(_, refusal)| refusal) {
-        Some(refusal @ ("1 at=1" | "2 at=1" | "3 at=1")) => format!("last hour refused={refusal}"),
-        None if total != "-" => "paid".to_string(),
-        None if !answer.contains("refused=") => "surplus".to_string(),
-        _ => return None,
-    };
-    Some(format!("{}: {outcome}", says(text)))
+    days::outcome(&says(text), answer)
 }
 
 fn header(rng: &mut Rng) -> Header {
@@ -189,70 +181,23 @@ fn many_marks(rng: &mut Rng, turn: usize) -> Vec<u8> {
 /// Days of all the blocks that the program `hour` is tried with.
 fn any_blocks(rng: &mut Rng, turn: usize) -> Vec<u8> {
     let said = said(turn);
-    let mut text = plain(said).to_text().into_bytes();
-    let seed = rng.bits();
-    for place in 0..count(said) {
-        let block = hour::PROGRAM.case(seed, turn * count(said) + place).text;
-        text.extend(for_place(rng, block, place));
-    }
-    text
-}
-
-/// The block with the hour of its place, for the most part, up to its first
-/// empty line, which closes it.
-fn for_place(rng: &mut Rng, block: Vec<u8>, place: usize) -> Vec<u8> {
-    let mut sheet = Sheet::of(&block);
-    let closed = sheet.lines.iter().position(Vec::is_empty);
-    sheet.lines.truncate(closed.unwrap_or(sheet.lines.len()));
-    // Long blocks have their own runs.
-    sheet.lines.truncate(40);
-    let is_one = |line: &Vec<u8>| line.len() < 2000 && line.starts_with(b"hour=");
-    if let Some(first) = sheet.lines.first_mut().filter(|line| is_one(line)) {
-        let said = number(&damage::pairs(first)[0][5..]);
-        if said.is_some_and(|hour| HOUR.missed(hour).is_none()) && !rng.once_in(40) {
-            set_value(first, 0, place.to_string().as_bytes());
-        }
-    }
-    sheet.lines.push(Vec::new());
-    sheet.ended = true;
-    sheet.text()
+    let head = plain(said).to_text();
+    days::any_blocks(rng, turn, &head, count(said), hour::PROGRAM.recipes)
 }
 
 /// Texts that end within a block, or behind one.
 fn block_ends(rng: &mut Rng, turn: usize) -> Vec<u8> {
     let said = any_said(rng);
     let last = rng.below(count(said));
-    let mut text = sheet(&plain(said), &all_paying(last));
-    let count = if turn % 3 == 2 { 30 } else { 4 + rng.below(4) };
-    let mut record = hours::any_of(rng, count);
-    record.day_ahead.hour = last as i64;
-    let block = Sheet::of(record.to_text().as_bytes());
-    let line = match turn % 6 {
-        0 => 0,
-        1 => 1,
-        2 => block.lines.len() - 1,
-        3 => 2,
-        4 => 3,
-        _ => 4 + rng.below(block.lines.len() - 4),
-    };
-    text.extend(pieces::end_in_line(rng, block, line, turn / 6));
-    text
+    let text = sheet(&plain(said), &all_paying(last));
+    days::block_ends::<Unit>(rng, turn, text, last)
 }
 
 /// Blocks at other places than their hours say, absent, doubled and apart.
 fn out_of_order(rng: &mut Rng, turn: usize) -> Vec<u8> {
     let header = plain(any_said(rng));
-    let mut hours = all_paying(header.cat.len());
-    let kind = turn % (pieces::MISPLACED + 1);
-    if kind < pieces::MISPLACED {
-        pieces::misplace(rng, &mut hours, kind);
-        return sheet(&header, &hours);
-    }
-    // One more empty line is an empty block.
-    let before = &hours[..rng.below(hours.len())];
-    let mut text = sheet(&header, &hours);
-    text.insert(sheet(&header, before).len(), b'\n');
-    text
+    let hours = all_paying(header.cat.len());
+    days::out_of_order(rng, turn, &header.to_text(), hours)
 }
 
 /// More blocks than the header's count, fewer, or just as many.
@@ -265,18 +210,8 @@ fn by_count(rng: &mut Rng, turn: usize) -> Vec<u8> {
 
 /// Bytes behind the last block, or just none.
 fn surplus(rng: &mut Rng, turn: usize) -> Vec<u8> {
-    let mut text = paying_day(&header(rng));
-    match turn % 6 {
-        2 => text.extend(paying(0).to_text().into_bytes()),
-        kind @ (0 | 1 | 3) => text.extend(pieces::surplus(rng, kind)),
-        4 => {
-            // Without the empty line between it is one more interval.
-            text.pop();
-            text.extend(still(&DayAhead::default(), 1).to_line());
-        }
-        _ => {}
-    }
-    text
+    let text = paying_day(&header(rng));
+    days::surplus(rng, turn, text, &paying(0))
 }
 
 fn damaged(rng: &mut Rng) -> Vec<u8> {
@@ -290,19 +225,6 @@ fn damaged(rng: &mut Rng) -> Vec<u8> {
     pieces::damaged(rng, sheet(&header, &hours))
 }
 
-/// A line of its own.
-trait ToLine {
-    fn to_line(&self) -> Vec<u8>;
-}
-
-impl ToLine for Interval {
-    fn to_line(&self) -> Vec<u8> {
-        let mut line = String::new();
-        self.write(&mut line);
-        line.into_bytes()
-    }
-}
-
 /// Two days that pay the same: of both forms, or with one paid hour changed.
 fn pair(rng: &mut Rng, turn: usize) -> Pair {
     if turn % 4 == 3 {
@@ -311,10 +233,10 @@ fn pair(rng: &mut Rng, turn: usize) -> Pair {
     let header = header(rng);
     let place = rng.below(header.cat.len());
     let mut hours = all_paying(header.cat.len());
-    let (mut record, mut change) = same::changed(rng, turn, true);
+    let (mut record, mut change) = same::changed(rng, turn, same::CHANGES, true);
     while matches!(change.bond, Bond::Becomes(_) | Bond::Hour(_)) {
         let other = rng.below(99);
-        (record, change) = same::changed(rng, other, true);
+        (record, change) = same::changed(rng, other, same::CHANGES, true);
     }
     record.day_ahead.hour = place as i64;
     change.after.day_ahead.hour = place as i64;
@@ -389,13 +311,10 @@ mod tests {
     #[test]
     fn what_came_of_the_hours() {
         let text = paying_day(&Header::counted(23));
-        let outcome = |answer: &str| outcome(&text, answer);
-        let came = |what: &str| Some(format!("form=2 hours=23: {what}"));
-        assert_eq!(outcome("hour=22 pay=1\ntotal=1\n"), came("paid"));
-        assert_eq!(outcome("hour=22 pay=1\ntotal=-\n"), came("surplus"));
-        let refused = "hour=22 refused=3 at=1\ntotal=-\n";
-        assert_eq!(outcome(refused), came("last hour refused=3 at=1"));
-        assert_eq!(outcome("hour=22 refused=5 at=0\ntotal=-\n"), None);
-        assert_eq!(outcome("refused=1 at=1\n"), None);
+        let came = |text: &[u8]| outcome(text, "hour=22 pay=1\ntotal=1\n");
+        let paid = |says: &str| Some(format!("{says}: paid"));
+        assert_eq!(came(&text), paid("form=2 hours=23"));
+        assert_eq!(came(&paying_day(&Header::default())), paid("form=1"));
+        assert_eq!(outcome(&text, "refused=1 at=1\n"), None);
     }
 }

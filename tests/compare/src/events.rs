@@ -7,11 +7,13 @@ use std::ops::RangeInclusive;
 use second::curve::CurveFault;
 use second::energy;
 use second::import::{CountedImportLine, ImportHourLine, ImportInterval};
-use second::text::{Fault, Number, Side};
+use second::record::{Kind, Unit};
+use second::text::{Fault, Number, SheetLine, Side};
 use second::trace::{DerateKind, ImportTest, Nth, Spot};
-use second::{Check, Curve, DayAhead, Event, Interval, Run};
+use second::{Check, Curve, Event, Interval, Run};
 
-const ORDERS: [Ordering; 3] = [Ordering::Less, Ordering::Equal, Ordering::Greater];
+/// Below, on it, above.
+pub(crate) const ORDERS: [Ordering; 3] = [Ordering::Less, Ordering::Equal, Ordering::Greater];
 
 const SIDES: [Side; 2] = [Side::Below, Side::Above];
 
@@ -28,7 +30,7 @@ pub fn of_hour() -> Vec<Event> {
     let mut events: Vec<Event> = Event::refusals().into_iter().filter(in_hour).collect();
     events.extend(Event::limits());
     events.extend(forms_of_hour());
-    events.extend(ranges_of_hour());
+    events.extend(ranges_of_hour::<Unit>());
     events.extend(curves());
     events.extend(derates());
     events.extend(limits());
@@ -96,7 +98,10 @@ fn forms_of_headers() -> Vec<Event> {
 }
 
 /// RANGE at these lines of a header.
-fn ranges_of_header(lines: RangeInclusive<usize>, spot: fn(usize) -> Spot) -> Vec<Event> {
+pub(crate) fn ranges_of_header(
+    lines: RangeInclusive<usize>,
+    spot: fn(usize) -> Spot,
+) -> Vec<Event> {
     let refused = |line| Event::Refused(Check::Range, spot(line));
     lines.map(refused).collect()
 }
@@ -139,24 +144,7 @@ pub fn of_import() -> Vec<Event> {
     events
 }
 
-/// Whether the report gives the event's count even if nobody asks for all.
-pub fn is_counted(event: Event) -> bool {
-    use Event::*;
-    matches!(
-        event,
-        Refused(..)
-            | Limit(_)
-            | Derate(_)
-            | Lagging(_)
-            | Excluded(_)
-            | Import(_)
-            | HourSum(_)
-            | DayHours(_)
-            | ImportHours(_)
-    )
-}
-
-fn is_of_hour(spot: Spot) -> bool {
+pub(crate) fn is_of_hour(spot: Spot) -> bool {
     use Spot::*;
     matches!(
         spot,
@@ -175,15 +163,15 @@ fn is_of_header(spot: Spot) -> bool {
 }
 
 fn is_of_import(spot: Spot) -> bool {
-    !is_of_hour(spot) && !is_of_header(spot)
+    !is_of_hour(spot) && !is_of_header(spot) && !matches!(spot, Spot::LineHead(_))
 }
 
-fn malformed(spot: Spot, faults: &[Fault]) -> Vec<Event> {
+pub(crate) fn malformed(spot: Spot, faults: &[Fault]) -> Vec<Event> {
     let event = |fault: &Fault| Event::Malformed(spot, *fault);
     faults.iter().map(event).collect()
 }
 
-fn forms_of_hour() -> Vec<Event> {
+pub(crate) fn forms_of_hour() -> Vec<Event> {
     let line = [Fault::Unended, Fault::Key, Fault::Number];
     let mut events = malformed(Spot::ExtraLine, &[Fault::Extra]);
     for spot in [Spot::DayAheadLine, Spot::DayAheadCurve, Spot::RealTimeCurve] {
@@ -211,16 +199,17 @@ fn ranges(numbers: &[Number]) -> Vec<Event> {
     events
 }
 
-fn ranges_of_hour() -> Vec<Event> {
+/// Both sides of every number of a block.
+pub(crate) fn ranges_of_hour<K: Kind>() -> Vec<Event> {
     let curve = Curve::new(0, &[(1, 0)]);
-    let mut events = ranges(&DayAhead::default().numbers());
+    let mut events = ranges(&K::Ahead::default().numbers());
     events.extend(ranges(&curve.numbers("da")));
     events.extend(ranges(&curve.numbers("rt")));
-    events.extend(ranges(&Interval::default().numbers()));
+    events.extend(ranges(&K::Interval::default().numbers()));
     events
 }
 
-fn curves() -> Vec<Event> {
+pub(crate) fn curves() -> Vec<Event> {
     let mut events = Vec::new();
     for spot in [Spot::DayAheadCurve, Spot::RealTimeCurve] {
         for fault in [
@@ -288,6 +277,7 @@ fn products() -> Vec<Event> {
 #[cfg(test)]
 mod tests {
     use super::*;
+    use crate::line_events::of_line;
     use second::trace::Branch;
 
     #[test]
@@ -300,7 +290,8 @@ mod tests {
 
     #[test]
     fn every_refusal_and_count_belongs_to_a_program_or_a_call() {
-        let known = [of_block(), of_day(), of_import(), of_up(), of_down()].concat();
+        let of_days = [of_day(), of_import(), of_line()].concat();
+        let known = [of_block(), of_days, of_up(), of_down()].concat();
         for event in [Event::refusals(), Event::counts()].concat() {
             assert!(known.contains(&event), "{event:?}");
         }

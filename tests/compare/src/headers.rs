@@ -8,17 +8,11 @@ use crate::damage::{set_value, Sheet, NO_NUMBERS};
 use crate::day::paying_day;
 use crate::pieces::{self, count, Said, COUNTS_OUT_OF_FORM, NO_COUNTS};
 use crate::random::Rng;
+use crate::rows::{self, Rows};
 
 /// The rows of marks, and the number of form 1's lines in front of them.
 pub const ROWS: usize = 7;
 const NUMBERS: usize = 3;
-
-/// Lengths of rows: those of all days, those beside, and those around what is
-/// kept of a long run of digits.
-const ROW_LENGTHS: &[usize] = &[0, 1, 22, 23, 24, 25, 26, 31, 32, 33, 34, 40, 20_000];
-
-/// Where a read or what is kept of a piece can end.
-pub const ENDS: &[usize] = &[65_536, 10_640, 131_072, 16_384, 32_768, 196_608];
 
 /// A unit in category (i) all day, without exceptions.
 pub fn plain(said: Said) -> Header {
@@ -76,24 +70,31 @@ pub fn wrong(rng: &mut Rng, turn: usize) -> Vec<u8> {
     let place = place(rng, turn, true);
     let (mut sheet, line) = (place.sheet, place.line);
     let is_row = line >= place.first_row;
+    let row = is_row.then_some(count(place.said));
+    wrong_line(rng, &mut sheet, line, row, place.round % 7);
+    sheet.text()
+}
+
+/// A header's line that is absent, extra or not in form; if it is a row, it has
+/// so many digits.
+pub fn wrong_line(rng: &mut Rng, sheet: &mut Sheet, line: usize, row: Option<usize>, kind: usize) {
     let text = &mut sheet.lines[line];
-    match place.round % 7 {
-        0 => drop(sheet.lines.remove(line)),
-        1 => {
+    match (kind, row) {
+        (0, _) => drop(sheet.lines.remove(line)),
+        (1, _) => {
             let again = text.clone();
             sheet.lines.insert(line, again);
         }
-        2 => sheet.lines.insert(line, b"x=1".to_vec()),
-        3 if !is_row => {
+        (2, _) => sheet.lines.insert(line, b"x=1".to_vec()),
+        (3, None) => {
             let value = rng.pick(NO_NUMBERS);
             set_value(text, 0, value.as_bytes());
         }
-        3 | 4 if is_row => wrong_row(rng, text, count(place.said)),
-        4 => text.insert(0, b'X'),
-        5 => text.push(rng.pick(b" \r0x")),
+        (3 | 4, Some(digits)) => wrong_row(rng, text, digits),
+        (4, None) => text.insert(0, b'X'),
+        (5, _) => text.push(rng.pick(b" \r0x")),
         _ => sheet.lines.insert(line, Vec::new()),
     }
-    sheet.text()
 }
 
 /// A row of marks of another length, or with a byte that is no digit.
@@ -215,72 +216,32 @@ fn counted(rng: &mut Rng, good_once_in: usize) -> (Sheet, usize) {
     (sheet, NUMBERS + usize::from(said.is_some()))
 }
 
-/// Digits for a row: marks, or any.
-fn digits(rng: &mut Rng, length: usize) -> Vec<u8> {
-    let from: &[u8] = rng.pick(&[b"01" as &[u8], b"0", b"0123456789"]);
-    rng.bytes_of(from, length)
+/// The rows of such a header, and a number before them that no header has.
+fn rows(first: usize) -> Rows {
+    Rows {
+        lines: first..first + ROWS,
+        spoilt: (first - 1, "2"),
+    }
 }
 
 /// Rows of other lengths, one or all of them, and what else can be wrong with
 /// such a row or behind it.
 pub fn other_rows(rng: &mut Rng, turn: usize) -> Vec<u8> {
-    let (mut sheet, first) = counted(rng, 2);
-    let length = ROW_LENGTHS[turn % ROW_LENGTHS.len()];
-    let row = first + rng.below(ROWS);
-    let all = rng.once_in(3);
-    for line in first..first + ROWS {
-        if all || line == row {
-            let value = digits(rng, length);
-            set_value(&mut sheet.lines[line], 0, &value);
-        }
-    }
-    damage_row(rng, &mut sheet, row, first + ROWS, turn % 7);
-    sheet.text()
-}
-
-/// A byte that is no digit in a row, at its far end or behind it; no LF; a fault
-/// of form or of range in another line; no empty line; or nothing.
-fn damage_row(rng: &mut Rng, sheet: &mut Sheet, row: usize, empty: usize, kind: usize) {
-    let line = &mut sheet.lines[row];
-    match kind {
-        0 => {
-            let start = line.iter().position(|byte| *byte == b'=').unwrap_or(0) + 1;
-            let at = start + rng.below(line.len() - start + 1);
-            line.insert(at, rng.pick(b"x -=\r\0"));
-        }
-        1 => line.push(rng.pick(b"x -=\r/:")),
-        2 => sheet.end_in(row, |length| length),
-        3 => sheet.lines[rng.pick(&[row + 1, empty - 1, empty])].push(b'x'),
-        4 => set_value(&mut sheet.lines[empty - ROWS - 1], 0, b"2"),
-        5 => drop(sheet.lines.remove(empty)),
-        _ => {}
-    }
+    let (sheet, first) = counted(rng, 2);
+    rows::other_lengths(rng, turn, sheet, &rows(first))
 }
 
 /// Rows so long that their LF, or a letter at their far end, stands around the
 /// end of a read, of several or of what is kept.
 pub fn long_rows(rng: &mut Rng, turn: usize) -> Vec<u8> {
-    let (mut sheet, first) = counted(rng, 6);
-    let row = first + rng.below(ROWS);
-    let end = ENDS[turn % ENDS.len()] - 1 + rng.below(3);
-    let before: usize = sheet.lines[..row].iter().map(|line| line.len() + 1).sum();
-    let key = sheet.lines[row].iter().position(|byte| *byte == b'=');
-    let length = end.saturating_sub(before + key.map_or(0, |at| at + 1));
-    let value = digits(rng, length);
-    set_value(&mut sheet.lines[row], 0, &value);
-    if rng.once_in(3) {
-        let other = first + rng.below(ROWS);
-        let length = rng.pick(ENDS);
-        let more = digits(rng, length);
-        sheet.lines[other].extend(more);
-    }
-    damage_row(rng, &mut sheet, row, first + ROWS, turn % 7);
-    sheet.text()
+    let (sheet, first) = counted(rng, 6);
+    rows::long(rng, turn, sheet, &rows(first))
 }
 
 #[cfg(test)]
 mod tests {
     use super::*;
+    use crate::rows::ENDS;
     use second::day_text;
 
     #[test]

@@ -1,16 +1,19 @@
-//! Hour blocks: how they are made and what they can reach.
+//! Hour blocks: how they are made and what they can reach. What is said of no
+//! kind of hour is made for blocks of every kind.
 
 use second::curve::MOST_STEPS;
-use second::record::{LINES_BEFORE, MOST_INTERVALS};
-use second::text::{Range, Side, ENERGY, HOUR, POWER, PRICE};
+use second::record::{Kind, Record, Unit, LINES_BEFORE, MOST_INTERVALS};
+use second::text::{Range, SheetLine, Side, ENERGY, HOUR, POWER, PRICE};
 use second::{hour, Curve, DayAhead, HourRecord, Interval};
 
 use crate::damage::{self, set_value, with_surplus, Sheet, BROKEN_PAIRS, NO_NUMBERS};
 use crate::events;
-use crate::hours::{self, curve_of, hull, priced, still, sum_and_room, trim};
+use crate::hours::{self, still, sum_and_room};
+use crate::kinds::Made;
 use crate::plan::{recipe, Program, Recipe};
 use crate::random::Rng;
 use crate::same;
+use crate::stretches::{curve_of, hull, trim};
 use crate::written::Written;
 
 /// The program `hour`.
@@ -37,34 +40,34 @@ const RECIPES: &[Recipe] = &[
     recipe("ends of ranges", 5, |rng, _| good(rng, hours::extreme)),
     recipe("largest amounts", 1, |rng, _| good(rng, largest)),
     recipe("around a cent", 2, |rng, _| good(rng, around_a_cent)),
-    recipe("just reached", 4, reach),
+    recipe("just reached", 4, reach::<Unit>),
     recipe("derates", 4, derate),
     recipe("lagging", 2, lagging),
-    recipe("seconds", 2, seconds),
-    recipe("just out of range", 4, out_of_range),
-    recipe("no numbers", 3, no_number),
-    recipe("wrong pairs", 2, wrong_pairs),
-    recipe("broken curves", 2, broken_curve),
-    recipe("wrong counts", 1, wrong_count),
-    recipe("hours", 1, other_hour),
-    recipe("extra lines", 1, extra_lines),
-    recipe("surplus", 1, surplus),
+    recipe("seconds", 2, seconds::<Unit>),
+    recipe("just out of range", 4, out_of_range::<Unit>),
+    recipe("no numbers", 3, no_number::<Unit>),
+    recipe("wrong pairs", 2, wrong_pairs::<Unit>),
+    recipe("broken curves", 2, broken_curve::<Unit>),
+    recipe("wrong counts", 1, wrong_count::<Unit>),
+    recipe("hours", 1, other_hour::<Unit>),
+    recipe("extra lines", 1, extra_lines::<Unit>),
+    recipe("surplus", 1, surplus::<Unit>),
     recipe("damaged bytes", 4, |rng, turn| {
-        damaged(rng, turn, damage::BYTES)
+        damaged::<Unit>(rng, turn, damage::BYTES)
     }),
     recipe("damaged lines", 2, |rng, turn| {
-        damaged(rng, turn, damage::LINES)
+        damaged::<Unit>(rng, turn, damage::LINES)
     }),
     recipe("damaged pairs", 2, |rng, turn| {
-        damaged(rng, turn, damage::PAIRS)
+        damaged::<Unit>(rng, turn, damage::PAIRS)
     }),
     recipe("damaged ends", 1, |rng, turn| {
-        damaged(rng, turn, damage::ENDS)
+        damaged::<Unit>(rng, turn, damage::ENDS)
     }),
-    recipe("ends within lines", 1, end_in_line),
-    recipe("noise", 1, noise),
-    recipe("long lines", 1, long),
-    recipe("several faults", 3, several),
+    recipe("ends within lines", 1, end_in_line::<Unit>),
+    recipe("noise", 1, noise::<Unit>),
+    recipe("long lines", 1, long::<Unit>),
+    recipe("several faults", 3, several::<Unit>),
 ];
 
 /// The hour that a paid block says.
@@ -74,7 +77,7 @@ fn outcome(_: &[u8], answer: &str) -> Option<String> {
 }
 
 /// The block of a record, closed by an empty line or by the end of the text.
-pub fn block(rng: &mut Rng, record: &HourRecord) -> Vec<u8> {
+pub fn block<K: Kind>(rng: &mut Rng, record: &Record<K>) -> Vec<u8> {
     let mut text = record.to_text().into_bytes();
     if rng.once_in(2) {
         text.push(b'\n');
@@ -82,14 +85,15 @@ pub fn block(rng: &mut Rng, record: &HourRecord) -> Vec<u8> {
     text
 }
 
-fn good(rng: &mut Rng, make: fn(&mut Rng) -> HourRecord) -> Vec<u8> {
+/// The block of an hour that is made so.
+pub fn good<K: Kind>(rng: &mut Rng, make: fn(&mut Rng) -> Record<K>) -> Vec<u8> {
     let record = make(rng);
     block(rng, &record)
 }
 
 /// Where the turn's interval stands: first, between, or thirtieth. The count
 /// of the hour's intervals, and the interval, counted from 0.
-fn nth(rng: &mut Rng, turn: usize) -> (usize, usize) {
+pub fn nth(rng: &mut Rng, turn: usize) -> (usize, usize) {
     let count = 4 + rng.below(MOST_INTERVALS - 3);
     match turn % 3 {
         0 => (count, 0),
@@ -100,8 +104,8 @@ fn nth(rng: &mut Rng, turn: usize) -> (usize, usize) {
 
 /// The lines of an hour that differ in kind, in turn: 1, 2, 3, the first
 /// interval, one between, the thirtieth. A sheet and its line, from 0.
-fn nth_line(rng: &mut Rng, turn: usize) -> (Sheet, usize) {
-    let mut record = with_curves(rng);
+fn nth_line<K: Made>(rng: &mut Rng, turn: usize) -> (Sheet, usize) {
+    let mut record = with_curves::<K>(rng);
     let (count, line) = match turn % 6 {
         line @ 0..=2 => (hours::count(rng), line),
         n => {
@@ -114,8 +118,8 @@ fn nth_line(rng: &mut Rng, turn: usize) -> (Sheet, usize) {
 }
 
 /// An hour both of whose curves have steps.
-fn with_curves(rng: &mut Rng) -> HourRecord {
-    let mut record = hours::any(rng);
+fn with_curves<K: Made>(rng: &mut Rng) -> Record<K> {
+    let mut record = K::any(rng);
     for curve in [&mut record.da, &mut record.rt] {
         if curve.count == 0 {
             *curve = hours::curve(rng, 0, 60, |rng| rng.between(-9, 9));
@@ -217,19 +221,19 @@ fn around_a_cent(rng: &mut Rng) -> HourRecord {
 }
 
 /// Curves that just reach, or just miss, at one end.
-fn reach(rng: &mut Rng, turn: usize) -> Vec<u8> {
-    let mut record = reaching(rng);
+pub fn reach<K: Made>(rng: &mut Rng, turn: usize) -> Vec<u8> {
+    let mut record = K::reaching(rng);
     let (count, target) = nth(rng, turn);
     hours::resize(rng, &mut record, count);
     if rng.once_in(2) {
         // Only the target asks for a price.
         for (i, interval) in record.intervals[..count].iter_mut().enumerate() {
             if i != target {
-                *interval = still(&record.day_ahead, interval.s);
+                *interval = K::still(&record.day_ahead, K::seconds(interval));
             }
         }
     }
-    let parts = priced(&record);
+    let parts = K::priced(&record);
     let alone: Vec<_> = parts.iter().filter(|p| p.interval == target).collect();
     let miss = turn / 3 % 3;
     for day_ahead in [true, false] {
@@ -250,7 +254,7 @@ fn reach(rng: &mut Rng, turn: usize) -> Vec<u8> {
 
 /// An hour whose curves reach everywhere, without lagging, with derates that
 /// have room.
-fn reaching(rng: &mut Rng) -> HourRecord {
+pub fn reaching(rng: &mut Rng) -> HourRecord {
     let mut record = hours::any(rng);
     let draw = |rng: &mut Rng| rng.between(-20_000, 20_000);
     record.da = hours::curve(rng, ENERGY.low, ENERGY.high, draw);
@@ -352,15 +356,17 @@ fn lagging(rng: &mut Rng, turn: usize) -> Vec<u8> {
 
 /// Seconds that make an hour and seconds that miss it by one; no intervals,
 /// too few and many.
-fn seconds(rng: &mut Rng, turn: usize) -> Vec<u8> {
-    let mut record = hours::any(rng);
+pub fn seconds<K: Made>(rng: &mut Rng, turn: usize) -> Vec<u8> {
+    let mut record = K::any(rng);
     match turn % 6 {
         0 => record.count = 0,
         1 => record.set_intervals(&vec![record.intervals[0]; 1 + rng.below(3)]),
         2 => {
             record.set_intervals(&[record.intervals[0]; MOST_INTERVALS]);
             let s = rng.pick(&[1, 900, 120, 120]);
-            record.intervals.iter_mut().for_each(|i| i.s = s);
+            for interval in &mut record.intervals {
+                *K::seconds_mut(interval) = s;
+            }
         }
         3 => hours::resize(rng, &mut record, 4),
         n => {
@@ -368,27 +374,28 @@ fn seconds(rng: &mut Rng, turn: usize) -> Vec<u8> {
             hours::resize(rng, &mut record, count);
             let far = rng.pick(&[-900, -256, 256, 512, 1024, 3600]);
             let off = if n == 4 { rng.pick(&[-1, 1]) } else { far };
-            shift_seconds(&mut record.intervals[..count], off);
+            shift_seconds::<K>(&mut record.intervals[..count], off);
         }
     }
     block(rng, &record)
 }
 
 /// Moves the sum of the seconds by so many, as far as the intervals allow.
-fn shift_seconds(intervals: &mut [Interval], mut off: i64) {
+fn shift_seconds<K: Made>(intervals: &mut [K::Interval], mut off: i64) {
     for interval in intervals {
-        let s = (interval.s + off).clamp(1, hours::LONGEST);
-        off -= s - interval.s;
-        interval.s = s;
+        let old = K::seconds_mut(interval);
+        let s = (*old + off).clamp(1, hours::LONGEST);
+        off -= s - *old;
+        *old = s;
     }
 }
 
 /// Every key of every kind of line, just below its range and just above.
-fn out_of_range(rng: &mut Rng, turn: usize) -> Vec<u8> {
-    let kinds = keys_and_sides();
+pub fn out_of_range<K: Made>(rng: &mut Rng, turn: usize) -> Vec<u8> {
+    let kinds = keys_and_sides::<K>();
     let (line, key, range, side) = kinds[turn % kinds.len()];
     let kind = line + rng.below(3) * usize::from(line == LINES_BEFORE);
-    let (mut sheet, line) = nth_line(rng, kind);
+    let (mut sheet, line) = nth_line::<K>(rng, kind);
     // Just outside for the most part, and sometimes as far as can be.
     let out = |rng: &mut Rng, near, far| if rng.once_in(8) { far } else { near };
     let value = match side {
@@ -400,13 +407,13 @@ fn out_of_range(rng: &mut Rng, turn: usize) -> Vec<u8> {
 }
 
 /// Line (from 0), key, range and side of every number of a block.
-fn keys_and_sides() -> Vec<(usize, &'static str, Range, Side)> {
+fn keys_and_sides<K: Kind>() -> Vec<(usize, &'static str, Range, Side)> {
     let curve = Curve::new(0, &[(1, 0)]);
     let lines = [
-        DayAhead::default().numbers(),
+        K::Ahead::default().numbers(),
         curve.numbers("da"),
         curve.numbers("rt"),
-        Interval::default().numbers(),
+        K::Interval::default().numbers(),
     ];
     let mut kinds = Vec::new();
     for (line, numbers) in lines.iter().enumerate() {
@@ -431,8 +438,8 @@ fn set_key(rng: &mut Rng, line: &mut Vec<u8>, key: &str, value: &str) {
 }
 
 /// Values that are no numbers, in every kind of line.
-fn no_number(rng: &mut Rng, turn: usize) -> Vec<u8> {
-    let (mut sheet, line) = nth_line(rng, turn);
+pub fn no_number<K: Made>(rng: &mut Rng, turn: usize) -> Vec<u8> {
+    let (mut sheet, line) = nth_line::<K>(rng, turn);
     let line = &mut sheet.lines[line];
     let pair = rng.below(damage::pairs(line).len());
     let value = NO_NUMBERS[turn / 6 % NO_NUMBERS.len()];
@@ -441,8 +448,8 @@ fn no_number(rng: &mut Rng, turn: usize) -> Vec<u8> {
 }
 
 /// Pairs that are absent, extra or named otherwise, in every kind of line.
-fn wrong_pairs(rng: &mut Rng, turn: usize) -> Vec<u8> {
-    let (mut sheet, line) = nth_line(rng, turn);
+pub fn wrong_pairs<K: Made>(rng: &mut Rng, turn: usize) -> Vec<u8> {
+    let (mut sheet, line) = nth_line::<K>(rng, turn);
     let kind = BROKEN_PAIRS[turn / 6 % BROKEN_PAIRS.len()];
     damage::damage_pairs(rng, &mut sheet.lines[line], kind);
     block_of_sheet(rng, &sheet)
@@ -457,8 +464,8 @@ fn block_of_sheet(rng: &mut Rng, sheet: &Sheet) -> Vec<u8> {
 }
 
 /// Curves that break a rule, or are just good.
-fn broken_curve(rng: &mut Rng, turn: usize) -> Vec<u8> {
-    let mut record = with_curves(rng);
+pub fn broken_curve<K: Made>(rng: &mut Rng, turn: usize) -> Vec<u8> {
+    let mut record = with_curves::<K>(rng);
     let kind = turn / 2 % 8;
     break_curve(rng, curve_of(&mut record, turn % 2 == 0), kind);
     if rng.once_in(6) {
@@ -509,8 +516,8 @@ fn break_curve(rng: &mut Rng, curve: &mut Curve, kind: usize) {
 }
 
 /// Counts of steps that are one off, or no count at all.
-fn wrong_count(rng: &mut Rng, turn: usize) -> Vec<u8> {
-    let mut record = with_curves(rng);
+pub fn wrong_count<K: Made>(rng: &mut Rng, turn: usize) -> Vec<u8> {
+    let mut record = with_curves::<K>(rng);
     let line = 1 + turn % 2;
     let longest = hours::curve(rng, -90, 90, |rng| rng.between(0, 9));
     let steps = |n: i64| -> Vec<(i64, i64)> { (1..=n).map(|i| (i, i)).collect() };
@@ -545,8 +552,8 @@ fn wrong_count(rng: &mut Rng, turn: usize) -> Vec<u8> {
 }
 
 /// Hours of the day and hours that are none.
-fn other_hour(rng: &mut Rng, turn: usize) -> Vec<u8> {
-    let record = hours::any(rng);
+pub fn other_hour<K: Made>(rng: &mut Rng, turn: usize) -> Vec<u8> {
+    let record = K::any(rng);
     let mut sheet = Sheet::of(record.to_text().as_bytes());
     let hours = [
         "0", "23", "24", "-1", "25", "99", "00", "024", "-0", "9999999", "12", "-", "-24", "26",
@@ -556,9 +563,9 @@ fn other_hour(rng: &mut Rng, turn: usize) -> Vec<u8> {
 }
 
 /// One interval line too many, good or not, or very many.
-fn extra_lines(rng: &mut Rng, turn: usize) -> Vec<u8> {
+pub fn extra_lines<K: Made>(rng: &mut Rng, turn: usize) -> Vec<u8> {
     let count = rng.pick(&[MOST_INTERVALS, MOST_INTERVALS, MOST_INTERVALS - 1]);
-    let record = hours::any_of(rng, count);
+    let record = hours::any_of::<K>(rng, count);
     let mut sheet = Sheet::of(record.to_text().as_bytes());
     let more = sheet.lines[LINES_BEFORE].clone();
     match turn % 7 {
@@ -586,13 +593,13 @@ fn extra_lines(rng: &mut Rng, turn: usize) -> Vec<u8> {
 }
 
 /// Bytes behind the closing empty line, which are not read.
-fn surplus(rng: &mut Rng, turn: usize) -> Vec<u8> {
-    let record = hours::any(rng);
+pub fn surplus<K: Made>(rng: &mut Rng, turn: usize) -> Vec<u8> {
+    let record = K::any(rng);
     let text = record.to_text().into_bytes();
     let behind = match turn % 7 {
         0 => b"\n".to_vec(),
         1 => b"x".to_vec(),
-        2 => hours::any(rng).to_text().into_bytes(),
+        2 => K::any(rng).to_text().into_bytes(),
         3 => text.clone(),
         4 => {
             let count = rng.below(200);
@@ -604,15 +611,16 @@ fn surplus(rng: &mut Rng, turn: usize) -> Vec<u8> {
     with_surplus(text, &behind)
 }
 
-fn damaged(rng: &mut Rng, turn: usize, kinds: &[damage::Damage]) -> Vec<u8> {
-    let record = hours::any(rng);
+/// A block with a damage of these kinds.
+pub fn damaged<K: Made>(rng: &mut Rng, turn: usize, kinds: &[damage::Damage]) -> Vec<u8> {
+    let record = K::any(rng);
     let text = block(rng, &record);
     kinds[turn % kinds.len()](rng, text)
 }
 
 /// A text that ends within one of its lines, or in front of it.
-fn end_in_line(rng: &mut Rng, turn: usize) -> Vec<u8> {
-    let (mut sheet, line) = nth_line(rng, turn);
+pub fn end_in_line<K: Made>(rng: &mut Rng, turn: usize) -> Vec<u8> {
+    let (mut sheet, line) = nth_line::<K>(rng, turn);
     sheet.end_in(line, |length| match turn / 6 % 4 {
         0 => length,
         1 => 0,
@@ -623,7 +631,7 @@ fn end_in_line(rng: &mut Rng, turn: usize) -> Vec<u8> {
 }
 
 /// Bytes that were never a sheet.
-fn noise(rng: &mut Rng, turn: usize) -> Vec<u8> {
+pub fn noise<K: Made>(rng: &mut Rng, turn: usize) -> Vec<u8> {
     let length = rng.pick(&[0, 1, 2, 3, 10, 100, 3000]);
     match turn % 5 {
         0 => rng.bytes(length),
@@ -631,7 +639,7 @@ fn noise(rng: &mut Rng, turn: usize) -> Vec<u8> {
         2 => rng.bytes_of(damage::ODD_BYTES, length),
         3 => rng.bytes_of(b"\n", length.min(10)),
         _ => {
-            let record = hours::any(rng);
+            let record = K::any(rng);
             let mut sheet = Sheet::of(record.to_text().as_bytes());
             rng.shuffle(&mut sheet.lines);
             sheet.text()
@@ -640,8 +648,8 @@ fn noise(rng: &mut Rng, turn: usize) -> Vec<u8> {
 }
 
 /// Lines of many bytes: digits, letters, blanks, pairs.
-fn long(rng: &mut Rng, turn: usize) -> Vec<u8> {
-    let (mut sheet, line) = nth_line(rng, turn);
+pub fn long<K: Made>(rng: &mut Rng, turn: usize) -> Vec<u8> {
+    let (mut sheet, line) = nth_line::<K>(rng, turn);
     let length = rng.pick(&[70, 300, 5_000, 66_000, 140_000]);
     let line = &mut sheet.lines[line];
     let pair = rng.below(damage::pairs(line).len());
@@ -658,27 +666,27 @@ fn long(rng: &mut Rng, turn: usize) -> Vec<u8> {
 
 /// Several faults of different checks in one block: the order of the checks
 /// decides between them.
-fn several(rng: &mut Rng, turn: usize) -> Vec<u8> {
-    let mut record = with_curves(rng);
+pub fn several<K: Made>(rng: &mut Rng, turn: usize) -> Vec<u8> {
+    let mut record = with_curves::<K>(rng);
     let faults = 1 + turn % 63;
     let count = record.count;
     if faults & 1 != 0 {
         let off = rng.pick(&[-1, 1]);
-        shift_seconds(&mut record.intervals[..count], off);
+        shift_seconds::<K>(&mut record.intervals[..count], off);
     }
     if faults & 2 != 0 {
         let kind = rng.below(4);
         break_curve(rng, curve_of(&mut record, turn % 2 == 0), kind);
     }
     if faults & 4 != 0 {
-        record.intervals[rng.below(count)].uol = Some(0);
+        K::hinder(&mut record.intervals[rng.below(count)]);
     }
     if faults & 8 != 0 {
         *curve_of(&mut record, rng.once_in(2)) = Curve::default();
     }
     let mut sheet = Sheet::of(record.to_text().as_bytes());
     if faults & 16 != 0 {
-        some_number_out(rng, &mut sheet);
+        some_number_out::<K>(rng, &mut sheet);
     }
     if faults & 32 != 0 {
         return damage::any(rng, sheet.text());
@@ -687,9 +695,9 @@ fn several(rng: &mut Rng, turn: usize) -> Vec<u8> {
 }
 
 /// A number just outside its range in one of the lines.
-fn some_number_out(rng: &mut Rng, sheet: &mut Sheet) {
+fn some_number_out<K: Kind>(rng: &mut Rng, sheet: &mut Sheet) {
     let line = sheet.any_line(rng);
-    let mut kinds = keys_and_sides();
+    let mut kinds = keys_and_sides::<K>();
     kinds.retain(|(kind, ..)| *kind == line.min(LINES_BEFORE));
     let (_, key, range, side) = rng.pick(&kinds);
     let value = match side {

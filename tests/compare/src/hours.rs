@@ -2,12 +2,11 @@
 //! ends of every range.
 
 use second::curve::MOST_STEPS;
-use second::derate::{day_ahead_schedules, real_time_schedules, reduced};
-use second::energy::{limit, Amounts};
-use second::record::MOST_INTERVALS;
+use second::record::{Kind, Record, MOST_INTERVALS};
 use second::text::{Range, BID, ENERGY, HOUR, POWER, PRICE};
-use second::{hour, Answer, Ask, Curve, DayAhead, HourRecord, Interval, Run, Trace, Way};
+use second::{hour, Answer, Ask, Curve, DayAhead, HourRecord, Interval, Run, Way};
 
+use crate::kinds::Made;
 use crate::random::Rng;
 
 /// Seconds of an hour.
@@ -26,9 +25,9 @@ pub fn any(rng: &mut Rng) -> HourRecord {
     }
 }
 
-/// An hour of any kind with this many intervals, 4 to 30.
-pub fn any_of(rng: &mut Rng, count: usize) -> HourRecord {
-    let mut record = any(rng);
+/// An hour of a kind with this many intervals, 4 to 30.
+pub fn any_of<K: Made>(rng: &mut Rng, count: usize) -> Record<K> {
+    let mut record = K::any(rng);
     resize(rng, &mut record, count);
     record
 }
@@ -47,27 +46,13 @@ pub fn storage(rng: &mut Rng) -> HourRecord {
 
 /// An hour of a few kilowatts and cents, where amounts often meet.
 pub fn small(rng: &mut Rng) -> HourRecord {
-    let most = rng.between(1, 6);
-    let draw = Draw {
-        energy: Range::new(-most, most),
-        power: Range::new(0, most),
-        price: Range::new(-3, 3),
-        bid: Range::new(0, 3),
-        edges: false,
-    };
+    let draw = Draw::few(rng);
     loose(rng, draw)
 }
 
 /// An hour whose numbers lie at the ends of their ranges.
 pub fn extreme(rng: &mut Rng) -> HourRecord {
-    let draw = Draw {
-        energy: ENERGY,
-        power: POWER,
-        price: PRICE,
-        bid: BID,
-        edges: true,
-    };
-    loose(rng, draw)
+    loose(rng, Draw::ENDS)
 }
 
 /// How many intervals an hour gets.
@@ -102,15 +87,15 @@ pub fn seconds(rng: &mut Rng, count: usize) -> Vec<i64> {
 }
 
 /// Gives an hour this many intervals, 4 to 30, of those that it has.
-pub fn resize(rng: &mut Rng, record: &mut HourRecord, count: usize) {
+pub fn resize<K: Made>(rng: &mut Rng, record: &mut Record<K>, count: usize) {
     let old = record.used().to_vec();
     let row = seconds(rng, count).into_iter().enumerate();
-    let new: Vec<Interval> = row
-        .map(|(i, s)| Interval {
-            s,
-            ..old[i % old.len()]
-        })
-        .collect();
+    let lasting = |(i, s)| {
+        let mut interval = old[i % old.len()];
+        *K::seconds_mut(&mut interval) = s;
+        interval
+    };
+    let new: Vec<K::Interval> = row.map(lasting).collect();
     record.set_intervals(&new);
 }
 
@@ -131,7 +116,8 @@ pub fn curve(rng: &mut Rng, low: i64, high: i64, price: impl Fn(&mut Rng) -> i64
     Curve::new(low, &steps)
 }
 
-fn market_price(rng: &mut Rng) -> i64 {
+/// A price as the market has it: now and then one below 0, or any.
+pub fn market_price(rng: &mut Rng) -> i64 {
     match rng.below(20) {
         0 => rng.within(PRICE),
         1 | 2 => rng.between(-5_000, 0),
@@ -139,19 +125,28 @@ fn market_price(rng: &mut Rng) -> i64 {
     }
 }
 
-/// A unit that is bid from `low` to `high` and scheduled between.
-fn unit(rng: &mut Rng, low: i64, high: i64) -> HourRecord {
-    let mut record = HourRecord {
-        da: curve(rng, low, high, market_price),
-        ..HourRecord::default()
-    };
-    record.rt = match rng.below(2) {
-        0 => record.da,
+/// Day-ahead and real-time curves over these kilowatts, the same in every other
+/// hour; and the points at which their prices change.
+pub fn bids(rng: &mut Rng, low: i64, high: i64) -> (Curve, Curve, Vec<i64>) {
+    let da = curve(rng, low, high, market_price);
+    let rt = match rng.below(2) {
+        0 => da,
         _ => curve(rng, low, high, market_price),
     };
     let mut points = vec![low, high, 0];
-    points.extend(record.da.used().iter().map(|step| step.to));
-    points.extend(record.rt.used().iter().map(|step| step.to));
+    points.extend(da.used().iter().map(|step| step.to));
+    points.extend(rt.used().iter().map(|step| step.to));
+    (da, rt, points)
+}
+
+/// A unit that is bid from `low` to `high` and scheduled between.
+fn unit(rng: &mut Rng, low: i64, high: i64) -> HourRecord {
+    let (da, rt, points) = bids(rng, low, high);
+    let mut record = HourRecord {
+        da,
+        rt,
+        ..HourRecord::default()
+    };
     let spare = Range::new(0, high / 10);
     record.day_ahead = DayAhead {
         hour: rng.within(HOUR),
@@ -192,7 +187,8 @@ struct Unit {
     derated: bool,
 }
 
-fn point(rng: &mut Rng, low: i64, high: i64, points: &[i64]) -> i64 {
+/// One of these points, or any between the two.
+pub fn point(rng: &mut Rng, low: i64, high: i64, points: &[i64]) -> i64 {
     match rng.below(3) {
         0 => rng.pick(points),
         _ => rng.between(low, high),
@@ -267,16 +263,43 @@ fn unit_interval(rng: &mut Rng, s: i64, line: &DayAhead, unit: &Unit) -> Interva
 
 /// What an hour's numbers are drawn from, one by one.
 #[derive(Clone, Copy)]
-struct Draw {
-    energy: Range,
-    power: Range,
-    price: Range,
-    bid: Range,
+pub struct Draw {
+    /// Energy, and the points of curves.
+    pub energy: Range,
+    /// Power that cannot be negative.
+    pub power: Range,
+    /// Prices.
+    pub price: Range,
+    /// Bids that cannot be negative.
+    pub bid: Range,
+    /// Whether the ends of a range are liked.
     edges: bool,
 }
 
 impl Draw {
-    fn of(&self, rng: &mut Rng, range: Range) -> i64 {
+    /// Numbers at the ends of their ranges.
+    pub const ENDS: Draw = Draw {
+        energy: ENERGY,
+        power: POWER,
+        price: PRICE,
+        bid: BID,
+        edges: true,
+    };
+
+    /// A few kilowatts and cents.
+    pub fn few(rng: &mut Rng) -> Self {
+        let most = rng.between(1, 6);
+        Draw {
+            energy: Range::new(-most, most),
+            power: Range::new(0, most),
+            price: Range::new(-3, 3),
+            bid: Range::new(0, 3),
+            edges: false,
+        }
+    }
+
+    /// A number of one of the ranges.
+    pub fn of(&self, rng: &mut Rng, range: Range) -> i64 {
         if self.edges {
             rng.edge(range)
         } else {
@@ -284,7 +307,8 @@ impl Draw {
         }
     }
 
-    fn curve(&self, rng: &mut Rng) -> Curve {
+    /// A curve over all the energy, for the most part.
+    pub fn curve(&self, rng: &mut Rng) -> Curve {
         let Range { low, high } = self.energy;
         if rng.once_in(12) {
             return Curve::default();
@@ -428,81 +452,8 @@ pub fn still(line: &DayAhead, s: i64) -> Interval {
     }
 }
 
-/// The kilowatts of a curve that an interval needs a price for.
-#[derive(Clone, Copy, Debug, PartialEq, Eq)]
-pub struct Priced {
-    /// The interval, counted from 0.
-    pub interval: usize,
-    /// Whether the day-ahead curve prices them, not the real-time curve.
-    pub day_ahead: bool,
-    /// The first of them.
-    pub low: i64,
-    /// Where they end; above the first.
-    pub high: i64,
-}
-
-/// What each interval needs a price for, up to one whose derate is refused.
-pub fn priced(record: &HourRecord) -> Vec<Priced> {
-    let mut priced = Vec::new();
-    let day_ahead = day_ahead_schedules(&record.day_ahead);
-    for (interval, line) in record.used().iter().enumerate() {
-        if line.ae <= line.lim {
-            continue;
-        }
-        let real_time = real_time_schedules(line);
-        let Ok(left) = reduced(day_ahead, real_time, line.uol, &mut Trace::off()) else {
-            break;
-        };
-        let (branch, kw) = limit(Amounts::of(left[0], line));
-        if kw != left[0] {
-            priced.push(Priced {
-                interval,
-                day_ahead: branch.is_lower(),
-                low: kw.min(left[0]) as i64,
-                high: kw.max(left[0]) as i64,
-            });
-        }
-    }
-    priced
-}
-
-/// All that one of the curves has to price, from its first kilowatt to its
-/// last, if there is any.
-pub fn hull(priced: &[Priced], day_ahead: bool) -> Option<(i64, i64)> {
-    let of_curve = || priced.iter().filter(|part| part.day_ahead == day_ahead);
-    let low = of_curve().map(|part| part.low).min()?;
-    let high = of_curve().map(|part| part.high).max()?;
-    Some((low, high))
-}
-
-/// One of an hour's two curves.
-pub fn curve_of(record: &mut HourRecord, day_ahead: bool) -> &mut Curve {
-    if day_ahead {
-        &mut record.da
-    } else {
-        &mut record.rt
-    }
-}
-
-/// The part of a curve from `low` to `high`; an empty curve if there is none.
-pub fn trim(curve: &Curve, low: i64, high: i64) -> Curve {
-    let low = low.max(curve.start);
-    let mut steps: Vec<(i64, i64)> = Vec::new();
-    let mut start = curve.start;
-    for step in curve.used() {
-        if step.to > low && start < high {
-            steps.push((step.to.min(high), step.at));
-        }
-        start = step.to;
-    }
-    if steps.is_empty() || low >= high {
-        return Curve::default();
-    }
-    Curve::new(low, &steps)
-}
-
 /// Whether an eligible hour is paid, by the second program.
-pub fn is_paid(record: &HourRecord) -> bool {
+pub fn is_paid<K: Kind>(record: &Record<K>) -> bool {
     let row = &mut [0; MOST_INTERVALS];
     let answer = hour::judge_record(record, Ask::default(), row, &mut Run::quiet(Way::Steps));
     matches!(answer, Answer::Paid(_))
@@ -511,6 +462,7 @@ pub fn is_paid(record: &HourRecord) -> bool {
 #[cfg(test)]
 mod tests {
     use super::*;
+    use crate::stretches::priced;
     use second::{hour, Answer, Ask, Check, Run};
 
     fn answer(record: &HourRecord) -> Answer {
@@ -554,22 +506,6 @@ mod tests {
             record.rt = Curve::default();
             assert_eq!(priced(&record), []);
             assert_eq!(answer(&record).cents(), Some(0), "{record:?}");
-        }
-    }
-
-    #[test]
-    fn a_trimmed_curve_prices_the_same_kilowatts() {
-        let whole = Curve::new(-5, &[(-3, 9), (0, 1), (4, 2), (5, 7)]);
-        for low in -7..7 {
-            for high in low..7 {
-                let part = trim(&whole, low, high);
-                assert_eq!(part.fault(), None, "{low} {high} {part:?}");
-                for kw in -9..9 {
-                    let inside = (low..high).contains(&kw);
-                    let price = whole.price(kw.into()).filter(|_| inside);
-                    assert_eq!(part.price(kw.into()), price, "{low} {high} {kw}");
-                }
-            }
         }
     }
 }

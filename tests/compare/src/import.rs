@@ -6,13 +6,13 @@ use second::import::{
 use second::record::MOST_INTERVALS;
 use second::text::{Number, Side, POWER, PRICE};
 
+use crate::bonds::{Bond, Pair};
 use crate::damage::{self, set_value, Sheet, BROKEN_PAIRS, NO_NUMBERS};
 use crate::events;
 use crate::hours;
 use crate::pieces::{self, any_said, count, each_hour, Said, COUNTS_OUT_OF_FORM, NO_COUNTS};
 use crate::plan::{recipe, Program, Recipe};
 use crate::random::Rng;
-use crate::same::{Bond, Pair};
 use crate::written::Written;
 
 /// The program `import`.
@@ -22,7 +22,7 @@ pub const PROGRAM: Program = Program {
     answer: |text, run| Written::Answer(import::program(text, run)),
     wanted: events::of_import,
     outcome,
-    outcomes: || pieces::outcomes(says),
+    outcomes: || pieces::outcomes(&pieces::SAID, says),
     ends_at_empty_line: false,
     pair: Some(pair),
     back: None,

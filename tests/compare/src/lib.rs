@@ -2,15 +2,20 @@
 //! for them: by a program outside, and by the second program.
 //!
 //! - [`random`]: numbers from a seed;
-//! - [`hours`]: hours as records, and what they need a price for;
+//! - [`hours`], [`lines`] and [`line_hours`]: hours of generators and of
+//!   internal controllable lines as records; [`kinds`] says what their making
+//!   has in common, and [`stretches`] what they need a price for;
 //! - [`damage`]: what can happen to a text;
-//! - [`pieces`]: texts of a head and the blocks of a day;
-//! - [`headers`]: the headers of day sheets;
+//! - [`pieces`] and [`days`]: texts of a head and the blocks of a day;
+//! - [`headers`], [`line_heads`] and [`rows`]: the headers of day sheets, the
+//!   heads of lines' days, and the rows of marks in both;
 //! - [`stored`]: sheets that go up or down;
-//! - [`hour`], [`day`], [`import`], [`archive`]: the texts of each program,
-//!   recipe by recipe;
-//! - [`same`]: pairs of texts whose answers are bound to each other;
-//! - [`events`]: what the texts of each program have to reach;
+//! - [`hour`], [`day`], [`import`], [`mod@line`], [`archive`]: the texts of each
+//!   program, recipe by recipe; and [`line_block`]: the blocks of a line;
+//! - [`bonds`]: pairs of texts whose answers are bound to each other, made by
+//!   [`same`] and [`line_same`];
+//! - [`events`] and [`line_events`]: what the texts of each program have to
+//!   reach;
 //! - [`written`] and [`answers`]: what programs write, and where it differs;
 //! - [`outside`] and [`run`]: the comparison itself;
 //! - [`arguments`] and [`tally`]: what a comparison is told, and what came of
@@ -22,28 +27,41 @@
 pub mod answers;
 pub mod archive;
 pub mod arguments;
+pub mod bonds;
 pub mod damage;
 pub mod day;
+pub mod days;
 pub mod events;
 pub mod headers;
 pub mod hour;
 pub mod hours;
 pub mod import;
+pub mod kinds;
+pub mod line;
+pub mod line_block;
+pub mod line_events;
+pub mod line_heads;
+pub mod line_hours;
+pub mod line_same;
+pub mod lines;
 pub mod outside;
 pub mod pieces;
 pub mod plan;
 pub mod random;
+pub mod rows;
 pub mod run;
 pub mod same;
 pub mod stored;
+pub mod stretches;
 pub mod tally;
 pub mod written;
 
 /// Every program that can be compared.
-pub const PROGRAMS: [&plan::Program; 5] = [
+pub const PROGRAMS: [&plan::Program; 6] = [
     &hour::PROGRAM,
     &day::PROGRAM,
     &import::PROGRAM,
+    &line::PROGRAM,
     &archive::UP,
     &archive::DOWN,
 ];
@@ -90,6 +108,11 @@ mod tests {
     #[test]
     fn import_texts_reach_everything() {
         reaches(&import::PROGRAM, 1500);
+    }
+
+    #[test]
+    fn line_texts_reach_everything() {
+        reaches(&line::PROGRAM, 1500);
     }
 
     #[test]

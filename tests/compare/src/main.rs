@@ -9,11 +9,11 @@ use compare::run::Job;
 use compare::PROGRAMS;
 
 const USAGE: &str = "\
-compare hour|day|import --bin PATH [--seed N] [--count M] [--pairs K]
+compare hour|day|import|line --bin PATH [--seed N] [--count M] [--pairs K]
         [--threads T] [--only INDEX] [--all] [--out DIR]
 compare up|down --bin PATH [--back PATH] [--seed N] [--count M]
         [--threads T] [--only INDEX] [--all] [--out DIR]
-compare hour|day|import|up|down --show INDEX [--seed N]
+compare hour|day|import|line|up|down --show INDEX [--seed N]
 
 Makes M texts and K pairs of texts (a tenth of M without --pairs) from the
 seed, hands each one to the program PATH and compares what it writes, on both

@@ -3,10 +3,11 @@
 
 use second::day::HOURS;
 use second::import::ImportHour;
+use second::record::Record;
 use second::text::HOUR;
-use second::HourRecord;
 
 use crate::damage::{self, Sheet};
+use crate::kinds::Made;
 use crate::random::Rng;
 
 /// The hours that a head says; none where it says none, and has 24.
@@ -53,15 +54,15 @@ const OUTCOMES: &[&str] = &[
     "last hour refused=3 at=1",
 ];
 
-/// Each of these under each count, as a head says it.
-pub fn outcomes(says: fn(Said) -> String) -> Vec<String> {
+/// Each of these under each of these counts, as a head says it.
+pub fn outcomes(counts: &[Said], says: fn(Said) -> String) -> Vec<String> {
     let under = |said| {
         let says = says(said);
         OUTCOMES
             .iter()
             .map(move |outcome| format!("{says}: {outcome}"))
     };
-    SAID.into_iter().flat_map(under).collect()
+    counts.iter().copied().flat_map(under).collect()
 }
 
 /// A block that says its hour.
@@ -72,9 +73,9 @@ pub trait Block: Clone {
     fn lines(&self) -> String;
 }
 
-impl Block for HourRecord {
+impl<K: Made> Block for Record<K> {
     fn hour(&mut self) -> &mut i64 {
-        &mut self.day_ahead.hour
+        K::hour_mut(&mut self.day_ahead)
     }
 
     fn lines(&self) -> String {
@@ -212,6 +213,7 @@ pub fn noise(rng: &mut Rng, head: fn(&mut Rng) -> String) -> Vec<u8> {
 mod tests {
     use super::*;
     use second::text::{number, DAY_HOURS};
+    use second::HourRecord;
 
     #[test]
     fn counts_are_what_they_are_called() {

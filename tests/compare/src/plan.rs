@@ -2,8 +2,8 @@
 
 use second::{Event, Run};
 
+use crate::bonds::Pair;
 use crate::random::Rng;
-use crate::same::Pair;
 use crate::written::Written;
 
 /// One way to make texts.
@@ -60,21 +60,26 @@ pub struct Case {
     pub text: Vec<u8>,
 }
 
+/// The text of this index under this seed, by one of these recipes.
+pub fn case(recipes: &[Recipe], seed: u64, index: usize) -> Case {
+    let round: usize = recipes.iter().map(|recipe| recipe.share).sum();
+    let mut slot = index % round;
+    for recipe in recipes {
+        if slot < recipe.share {
+            let turn = index / round * recipe.share + slot;
+            let text = (recipe.make)(&mut Rng::new(seed, index as u64), turn);
+            let recipe = recipe.name;
+            return Case { recipe, text };
+        }
+        slot -= recipe.share;
+    }
+    unreachable!("a slot of the round belongs to a recipe")
+}
+
 impl Program {
     /// The text of this index under this seed.
     pub fn case(&self, seed: u64, index: usize) -> Case {
-        let round: usize = self.recipes.iter().map(|recipe| recipe.share).sum();
-        let mut slot = index % round;
-        for recipe in self.recipes {
-            if slot < recipe.share {
-                let turn = index / round * recipe.share + slot;
-                let text = (recipe.make)(&mut Rng::new(seed, index as u64), turn);
-                let recipe = recipe.name;
-                return Case { recipe, text };
-            }
-            slot -= recipe.share;
-        }
-        unreachable!("a slot of the round belongs to a recipe")
+        case(self.recipes, seed, index)
     }
 
     /// The pair of this index under this seed, where there are pairs.

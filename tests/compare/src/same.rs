@@ -2,134 +2,32 @@
 //! interval cut in two, another order of the intervals.
 
 use second::curve::MOST_STEPS;
-use second::record::MOST_INTERVALS;
+use second::record::{Record, Unit, MOST_INTERVALS};
 use second::text::{BID, ENERGY, HOUR, POWER, PRICE};
 use second::{Curve, HourRecord, Interval};
 
+use crate::bonds::{Bond, Pair};
 use crate::damage::with_surplus;
-use crate::hours::{self, curve_of, hull, is_paid, priced, sum_and_room, trim};
+use crate::hours::{self, is_paid, sum_and_room};
+use crate::kinds::Made;
 use crate::random::Rng;
-
-/// How the second answer follows from the first.
-#[derive(Clone, Debug, PartialEq, Eq)]
-pub enum Bond {
-    /// It is the same.
-    Same,
-    /// This interval, counted from 0, has become two: their contributions sum
-    /// to the old one, and all else is as before.
-    Cut(usize),
-    /// The interval at each place is the old one of this number, from 0.
-    Order(Vec<usize>),
-    /// Only the hour is another one.
-    Hour(i64),
-    /// It is this one.
-    Becomes(String),
-}
-
-/// Two texts and how their answers are bound.
-#[derive(Clone, Debug, PartialEq, Eq)]
-pub struct Pair {
-    /// What was changed.
-    pub name: &'static str,
-    /// The text before.
-    pub before: Vec<u8>,
-    /// The text after.
-    pub after: Vec<u8>,
-    /// How the answers are bound.
-    pub bond: Bond,
-}
-
-impl Bond {
-    /// Whether these two answers are bound so.
-    pub fn holds(&self, before: &str, after: &str) -> bool {
-        match self {
-            Bond::Same => before == after,
-            Bond::Becomes(text) => after == text,
-            Bond::Hour(hour) => is_other_hour(before, after, *hour),
-            Bond::Cut(at) => match (Paid::of(before), Paid::of(after)) {
-                (Some(before), Some(after)) => is_cut(&before, &after, *at),
-                (None, None) => is_moved(before, after, *at),
-                _ => false,
-            },
-            Bond::Order(order) => match (Paid::of(before), Paid::of(after)) {
-                (Some(before), Some(after)) => is_order(&before, &after, order),
-                _ => false,
-            },
-        }
-    }
-}
-
-/// A paid hour as it is printed.
-struct Paid<'a> {
-    grains: Vec<i128>,
-    last: &'a str,
-}
-
-impl<'a> Paid<'a> {
-    fn of(answer: &'a str) -> Option<Self> {
-        let mut lines: Vec<&str> = answer.strip_suffix('\n')?.split('\n').collect();
-        let last = lines.pop().filter(|line| line.starts_with("hour="))?;
-        let mut grains = Vec::new();
-        for (i, line) in lines.into_iter().enumerate() {
-            let value = line.strip_prefix(&format!("i={} grains=", i + 1))?;
-            grains.push(value.parse().ok()?);
-        }
-        Some(Paid { grains, last })
-    }
-}
-
-fn is_cut(before: &Paid<'_>, after: &Paid<'_>, at: usize) -> bool {
-    let mut joined = after.grains.clone();
-    if at + 1 >= joined.len() {
-        return false;
-    }
-    let second = joined.remove(at + 1);
-    joined[at] += second;
-    joined == before.grains && before.last == after.last
-}
-
-/// A refused interval behind the cut one has moved by one place.
-fn is_moved(before: &str, after: &str, at: usize) -> bool {
-    let place = |answer: &str| -> Option<(String, usize)> {
-        let (what, place) = answer.strip_suffix('\n')?.split_once(" at=")?;
-        Some((what.to_string(), place.parse().ok()?))
-    };
-    let (Some((what, old)), Some(new)) = (place(before), place(after)) else {
-        return false;
-    };
-    let moved = old + usize::from(old > at + 1);
-    new == (what, moved)
-}
-
-fn is_order(before: &Paid<'_>, after: &Paid<'_>, order: &[usize]) -> bool {
-    let expected: Option<Vec<i128>> = order
-        .iter()
-        .map(|old| before.grains.get(*old).copied())
-        .collect();
-    expected.as_ref() == Some(&after.grains) && before.last == after.last
-}
-
-fn is_other_hour(before: &str, after: &str, hour: i64) -> bool {
-    let (Some(before), Some(after)) = (Paid::of(before), Paid::of(after)) else {
-        return before == after;
-    };
-    let pay = before.last.split_once(' ').map(|(_, pay)| pay);
-    let expected = pay.map(|pay| format!("hour={hour} {pay}"));
-    before.grains == after.grains && expected.as_deref() == Some(after.last)
-}
+use crate::stretches::{curve_of, hull, trim, Priced};
 
 /// An hour, changed, and how its answer is bound to the old one.
-pub struct Change {
+pub struct Change<K: Made> {
     /// What was changed.
     pub name: &'static str,
     /// The hour after.
-    pub after: HourRecord,
+    pub after: Record<K>,
     /// How the answers are bound.
     pub bond: Bond,
 }
 
-/// Every change of an hour; none if the hour does not allow it.
-const CHANGES: &[fn(&mut Rng, &HourRecord) -> Option<Change>] = &[
+/// Ways to change an hour of a kind; none if the hour does not allow it.
+pub type Changes<K> = [fn(&mut Rng, &Record<K>) -> Option<Change<K>>];
+
+/// Every change of a generator's hour.
+pub const CHANGES: &Changes<Unit> = &[
     cut_da_step,
     cut_rt_step,
     add_behind,
@@ -148,11 +46,17 @@ const CHANGES: &[fn(&mut Rng, &HourRecord) -> Option<Change>] = &[
 /// Hours tried before a change is given up for the next one.
 const TRIES: usize = 200;
 
-/// An hour and a change that it allows. Paid hours only, if so asked.
-pub fn changed(rng: &mut Rng, turn: usize, paid: bool) -> (HourRecord, Change) {
-    for change in CHANGES.iter().cycle().skip(turn % CHANGES.len()) {
+/// An hour and one of these changes, that it allows. Paid hours only, if so
+/// asked.
+pub fn changed<K: Made>(
+    rng: &mut Rng,
+    turn: usize,
+    changes: &Changes<K>,
+    paid: bool,
+) -> (Record<K>, Change<K>) {
+    for change in changes.iter().cycle().skip(turn % changes.len()) {
         for _ in 0..TRIES {
-            let record = hours::any(rng);
+            let record = K::any(rng);
             if paid && !is_paid(&record) {
                 continue;
             }
@@ -170,7 +74,7 @@ pub fn of_hours(rng: &mut Rng, turn: usize) -> Pair {
         return surplus(rng);
     }
     let turn = turn % (CHANGES.len() + 1);
-    let (record, change) = changed(rng, turn, false);
+    let (record, change) = changed(rng, turn, CHANGES, false);
     let before = record.to_text().into_bytes();
     let after = change.after.to_text().into_bytes();
     // Sameness goes both ways.
@@ -222,35 +126,37 @@ fn steps_of(curve: &Curve) -> Vec<(i64, i64)> {
     curve.used().iter().map(|step| (step.to, step.at)).collect()
 }
 
-fn cut_da_step(rng: &mut Rng, record: &HourRecord) -> Option<Change> {
+/// A step of the day-ahead curve as two.
+pub fn cut_da_step<K: Made>(rng: &mut Rng, record: &Record<K>) -> Option<Change<K>> {
     let da = cut_step(rng, &record.da).filter(|curve| curve.fault().is_none())?;
     same(
         "day-ahead step cut",
-        HourRecord {
+        Record {
             da,
             ..record.clone()
         },
     )
 }
 
-fn cut_rt_step(rng: &mut Rng, record: &HourRecord) -> Option<Change> {
+/// A step of the real-time curve as two.
+pub fn cut_rt_step<K: Made>(rng: &mut Rng, record: &Record<K>) -> Option<Change<K>> {
     let rt = cut_step(rng, &record.rt).filter(|curve| curve.fault().is_none())?;
     same(
         "real-time step cut",
-        HourRecord {
+        Record {
             rt,
             ..record.clone()
         },
     )
 }
 
-fn same(name: &'static str, after: HourRecord) -> Option<Change> {
+fn same<K: Made>(name: &'static str, after: Record<K>) -> Option<Change<K>> {
     let bond = Bond::Same;
     Some(Change { name, after, bond })
 }
 
 /// The first step may be dearer than the second, but the half of one may not.
-fn cut_dear_first_step(rng: &mut Rng, record: &HourRecord) -> Option<Change> {
+pub fn cut_dear_first_step<K: Made>(rng: &mut Rng, record: &Record<K>) -> Option<Change<K>> {
     let mut after = record.clone();
     let (line, curve) = match rng.below(2) {
         0 => (2, &mut after.da),
@@ -272,7 +178,7 @@ fn cut_dear_first_step(rng: &mut Rng, record: &HourRecord) -> Option<Change> {
 }
 
 /// A paid hour has all the prices it needs: more curve behind changes nothing.
-fn add_behind(rng: &mut Rng, record: &HourRecord) -> Option<Change> {
+pub fn add_behind<K: Made>(rng: &mut Rng, record: &Record<K>) -> Option<Change<K>> {
     let mut after = record.clone();
     let curve = curve_of(&mut after, rng.once_in(2));
     let mut steps = steps_of(curve);
@@ -297,7 +203,7 @@ fn add_behind(rng: &mut Rng, record: &HourRecord) -> Option<Change> {
 }
 
 /// So does more curve in front: a longer first step, or a step more.
-fn add_in_front(rng: &mut Rng, record: &HourRecord) -> Option<Change> {
+pub fn add_in_front<K: Made>(rng: &mut Rng, record: &Record<K>) -> Option<Change<K>> {
     let mut after = record.clone();
     let curve = curve_of(&mut after, rng.once_in(2));
     let mut steps = steps_of(curve);
@@ -318,12 +224,12 @@ fn add_in_front(rng: &mut Rng, record: &HourRecord) -> Option<Change> {
 }
 
 /// Curves cut down to the kilowatts that are priced.
-fn just_reaching(_: &mut Rng, record: &HourRecord) -> Option<Change> {
+pub fn just_reaching<K: Made>(_: &mut Rng, record: &Record<K>) -> Option<Change<K>> {
     if !is_paid(record) {
         return None;
     }
     let mut after = record.clone();
-    let parts = priced(record);
+    let parts = K::priced(record);
     for (day_ahead, curve) in [(true, &mut after.da), (false, &mut after.rt)] {
         let (low, high) = hull(&parts, day_ahead).unwrap_or((0, 0));
         *curve = trim(curve, low, high);
@@ -332,11 +238,11 @@ fn just_reaching(_: &mut Rng, record: &HourRecord) -> Option<Change> {
 }
 
 /// And one kilowatt further: the first interval that asks for it is refused.
-fn just_missing(rng: &mut Rng, record: &HourRecord) -> Option<Change> {
+pub fn just_missing<K: Made>(rng: &mut Rng, record: &Record<K>) -> Option<Change<K>> {
     if !is_paid(record) {
         return None;
     }
-    let parts = priced(record);
+    let parts = K::priced(record);
     let day_ahead = rng.once_in(2);
     let (low, high) = hull(&parts, day_ahead)?;
     let mut after = record.clone();
@@ -346,7 +252,7 @@ fn just_missing(rng: &mut Rng, record: &HourRecord) -> Option<Change> {
         true => trim(curve, low, high - 1),
         false => trim(curve, low + 1, high),
     };
-    let asks = |part: &&hours::Priced| {
+    let asks = |part: &&Priced| {
         let meets = if behind {
             part.high == high
         } else {
@@ -363,9 +269,9 @@ fn just_missing(rng: &mut Rng, record: &HourRecord) -> Option<Change> {
 }
 
 /// A curve that no interval asks can be any other.
-fn curve_not_asked(rng: &mut Rng, record: &HourRecord) -> Option<Change> {
+pub fn curve_not_asked<K: Made>(rng: &mut Rng, record: &Record<K>) -> Option<Change<K>> {
     let day_ahead = rng.once_in(2);
-    if !is_paid(record) || hull(&priced(record), day_ahead).is_some() {
+    if !is_paid(record) || hull(&K::priced(record), day_ahead).is_some() {
         return None;
     }
     let mut after = record.clone();
@@ -378,31 +284,17 @@ fn curve_not_asked(rng: &mut Rng, record: &HourRecord) -> Option<Change> {
 }
 
 /// An interval as two lines: seconds and movement sum to the old ones.
-fn cut_interval(rng: &mut Rng, record: &HourRecord) -> Option<Change> {
+pub fn cut_interval<K: Made>(rng: &mut Rng, record: &Record<K>) -> Option<Change<K>> {
     let mut row = record.used().to_vec();
     if row.len() == MOST_INTERVALS {
         return None;
     }
     let at = rng.below(row.len());
-    let whole = row[at];
-    if whole.s < 2 {
+    if K::seconds(&row[at]) < 2 {
         return None;
     }
-    let seconds = rng.between(1, whole.s - 1);
-    let moved = rng.between(0, whole.mv);
-    row[at] = Interval {
-        s: seconds,
-        mv: moved,
-        ..whole
-    };
-    row.insert(
-        at + 1,
-        Interval {
-            s: whole.s - seconds,
-            mv: whole.mv - moved,
-            ..whole
-        },
-    );
+    let parts = K::cut(rng, row[at]);
+    row.splice(at..=at, parts);
     let mut after = record.clone();
     after.set_intervals(&row);
     Some(Change {
@@ -413,13 +305,13 @@ fn cut_interval(rng: &mut Rng, record: &HourRecord) -> Option<Change> {
 }
 
 /// Another order of the intervals.
-fn other_order(rng: &mut Rng, record: &HourRecord) -> Option<Change> {
+pub fn other_order<K: Made>(rng: &mut Rng, record: &Record<K>) -> Option<Change<K>> {
     if !is_paid(record) {
         return None;
     }
     let mut order: Vec<usize> = (0..record.count).collect();
     rng.shuffle(&mut order);
-    let row: Vec<Interval> = order.iter().map(|old| record.intervals[*old]).collect();
+    let row: Vec<K::Interval> = order.iter().map(|old| record.intervals[*old]).collect();
     let mut after = record.clone();
     after.set_intervals(&row);
     Some(Change {
@@ -430,7 +322,7 @@ fn other_order(rng: &mut Rng, record: &HourRecord) -> Option<Change> {
 }
 
 /// A limit that the schedules fit below does what no limit does.
-fn fits_or_none(rng: &mut Rng, record: &HourRecord) -> Option<Change> {
+fn fits_or_none(rng: &mut Rng, record: &HourRecord) -> Option<Change<Unit>> {
     let mut after = record.clone();
     let mut any = false;
     for interval in &mut after.intervals[..record.count] {
@@ -446,7 +338,7 @@ fn fits_or_none(rng: &mut Rng, record: &HourRecord) -> Option<Change> {
 }
 
 /// Whatever stands in a lagging interval, it contributes 0.
-fn while_lagging(rng: &mut Rng, record: &HourRecord) -> Option<Change> {
+fn while_lagging(rng: &mut Rng, record: &HourRecord) -> Option<Change<Unit>> {
     let mut after = record.clone();
     let mut any = false;
     for interval in &mut after.intervals[..record.count] {
@@ -479,10 +371,12 @@ fn while_lagging(rng: &mut Rng, record: &HourRecord) -> Option<Change> {
     any.then(|| same("other numbers while lagging", after))?
 }
 
-fn other_hour(rng: &mut Rng, record: &HourRecord) -> Option<Change> {
+/// Another hour, which is all that the answer has otherwise.
+pub fn other_hour<K: Made>(rng: &mut Rng, record: &Record<K>) -> Option<Change<K>> {
     let mut after = record.clone();
-    after.day_ahead.hour = rng.within(HOUR);
-    let bond = Bond::Hour(after.day_ahead.hour);
+    let hour = rng.within(HOUR);
+    *K::hour_mut(&mut after.day_ahead) = hour;
+    let bond = Bond::Hour(hour);
     Some(Change {
         name: "other hour",
         after,
@@ -493,38 +387,6 @@ fn other_hour(rng: &mut Rng, record: &HourRecord) -> Option<Change> {
 #[cfg(test)]
 mod tests {
     use super::*;
-
-    const BEFORE: &str = "i=1 grains=5\ni=2 grains=-7\nhour=3 pay=0\n";
-
-    #[test]
-    fn a_cut_sums_to_the_old() {
-        let after = "i=1 grains=5\ni=2 grains=-3\ni=3 grains=-4\nhour=3 pay=0\n";
-        assert!(Bond::Cut(1).holds(BEFORE, after));
-        assert!(!Bond::Cut(0).holds(BEFORE, after));
-        assert!(!Bond::Cut(2).holds(BEFORE, after));
-        assert!(!Bond::Cut(1).holds(BEFORE, BEFORE));
-        assert!(!Bond::Cut(1).holds(BEFORE, &after.replace("pay=0", "pay=1")));
-        assert!(Bond::Cut(1).holds("refused=6 at=2\n", "refused=6 at=2\n"));
-        assert!(Bond::Cut(1).holds("refused=6 at=3\n", "refused=6 at=4\n"));
-        assert!(!Bond::Cut(1).holds("refused=6 at=3\n", "refused=6 at=3\n"));
-        assert!(!Bond::Cut(1).holds("refused=6 at=3\n", "refused=7 at=4\n"));
-        assert!(!Bond::Cut(1).holds("refused=6 at=3\n", after));
-    }
-
-    #[test]
-    fn an_order_moves_the_contributions() {
-        let after = "i=1 grains=-7\ni=2 grains=5\nhour=3 pay=0\n";
-        assert!(Bond::Order(vec![1, 0]).holds(BEFORE, after));
-        assert!(!Bond::Order(vec![0, 1]).holds(BEFORE, after));
-        assert!(!Bond::Order(vec![1, 0]).holds(BEFORE, &after.replace("hour=3", "hour=4")));
-    }
-
-    #[test]
-    fn another_hour_is_printed() {
-        assert!(Bond::Hour(9).holds(BEFORE, &BEFORE.replace("hour=3", "hour=9")));
-        assert!(!Bond::Hour(9).holds(BEFORE, BEFORE));
-        assert!(Bond::Hour(9).holds("refused=6 at=3\n", "refused=6 at=3\n"));
-    }
 
     #[test]
     fn every_change_comes_up_and_holds_for_the_second_program() {

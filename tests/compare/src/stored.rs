@@ -6,9 +6,10 @@ use second::Header;
 
 use crate::damage::{set_value, Sheet};
 use crate::day;
-use crate::headers::{self, ENDS, ROWS};
+use crate::headers::{self, ROWS};
 use crate::pieces::{self, Said, COUNTS_OUT_OF_FORM, NO_COUNTS};
 use crate::random::Rng;
+use crate::rows::ENDS;
 
 /// Numbers of forms that there are not, some of them with a byte of one that
 /// there is, and values that are no numbers in the sheet's form.

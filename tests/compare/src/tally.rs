@@ -8,8 +8,6 @@ use std::{fs, io};
 
 use second::{Event, Trace};
 
-use crate::events::is_counted;
-
 /// After so many failures a run is stopped.
 pub const ENOUGH: usize = 50;
 
@@ -120,6 +118,24 @@ impl Tally {
         }
         println!("{} passed, {} failed", self.passed, self.failed);
     }
+}
+
+/// Whether the report gives the event's count even if nobody asks for all.
+fn is_counted(event: Event) -> bool {
+    use Event::*;
+    matches!(
+        event,
+        Refused(..)
+            | Limit(_)
+            | Derate(_)
+            | Lagging(_)
+            | Excluded(_)
+            | Import(_)
+            | HourSum(_)
+            | DayHours(_)
+            | ImportHours(_)
+            | Line(_)
+    )
 }
 
 /// Writes a failure to its file in a folder, and gives the file's path.

@@ -4,14 +4,12 @@
 use std::fmt;
 
 use compare::damage::SHEET_BYTES;
-use compare::hour;
+use compare::plan::case;
 use compare::random::Rng;
-use second::hour::judge_block;
-use second::record::{LINES_BEFORE, MOST_INTERVALS};
-use second::text::cut_block;
-use second::{Answer, Ask, HourRecord, Run};
+use second::{Answer, Ask, Run};
 
-use crate::archive::{self, Numbers};
+use crate::archive::Numbers;
+use crate::export::Export;
 use crate::reached::{Answered, AtEnd, Hour, Room, COUNTS, LAST_HOURS};
 
 /// Entries on either side of a lent row that nobody may touch.
@@ -19,6 +17,8 @@ const BESIDE: usize = 3;
 
 /// What is lent, and what is asked.
 pub struct Call {
+    /// Whose call it is.
+    pub export: &'static Export,
     /// The way the block was made.
     pub recipe: &'static str,
     /// The block, with bytes around it that belong to nobody.
@@ -49,15 +49,15 @@ pub struct Outcome {
 }
 
 impl Call {
-    /// The call of this index under this seed.
-    pub fn new(seed: u64, index: usize) -> Self {
-        let mut case = hour::PROGRAM.case(seed, index);
+    /// The call of this index under this seed, to this function.
+    pub fn new(export: &'static Export, seed: u64, index: usize) -> Self {
+        let mut case = case(export.recipes, seed, index);
         // Another seed than the text's.
         let mut rng = Rng::new(seed ^ 0xca11, index as u64);
         if rng.once_in(3) {
             say(&mut case.text, rng.pick(&LAST_HOURS));
         }
-        let (said, intervals) = said(&case.text);
+        let (said, intervals) = (export.said)(&case.text);
         let expected = match rng.below(5) {
             0 | 1 => rng.pick(&[-1, -1, -1, -24, i64::MIN]),
             2 | 3 => said,
@@ -84,6 +84,7 @@ impl Call {
         };
         let excluded = rng.once_in(3);
         Call {
+            export,
             recipe: case.recipe,
             bytes,
             block,
@@ -145,8 +146,8 @@ impl Call {
             entries,
         } = &mut outcome;
         let row = row_in(entries);
-        let (excluded, expected) = (self.excluded, self.expected);
-        *number = archive::block(self.text(), excluded, expected, self.hours, row, numbers);
+        let (excluded, expected, hours) = (self.excluded, self.expected, self.hours);
+        *number = (self.export.archive)(self.text(), excluded, expected, hours, row, numbers);
         outcome
     }
 
@@ -171,7 +172,7 @@ impl Call {
     pub fn of_second(&self, run: &mut Run) -> Outcome {
         let mut outcome = self.before();
         let row = row_in(&mut outcome.entries);
-        match judge_block(self.text(), self.ask(), row, run) {
+        match (self.export.second)(self.text(), self.ask(), row, run) {
             Answer::Refused(refusal) => {
                 outcome.number = refusal.check.number().into();
                 outcome.numbers.place = refusal.place as u64;
@@ -191,6 +192,7 @@ impl fmt::Display for Call {
     fn fmt(&self, out: &mut fmt::Formatter<'_>) -> fmt::Result {
         let (excluded, expected, hours) = (self.excluded, self.expected, self.hours);
         let length = self.entries.len() - 2 * BESIDE;
+        writeln!(out, "call: {}", self.export.name)?;
         writeln!(out, "excluded: {excluded}, expected hour: {expected}")?;
         writeln!(out, "a day of {hours} hours")?;
         writeln!(out, "{:?}", self.numbers)?;
@@ -212,19 +214,6 @@ fn say(text: &mut Vec<u8>, hour: i64) {
         let digits = text[KEY.len()..].iter().take_while(|b| b.is_ascii_digit());
         let end = KEY.len() + digits.count();
         text.splice(KEY.len()..end, hour.to_string().into_bytes());
-    }
-}
-
-/// The hour and the count of intervals that a block says; of a block that
-/// cannot be read, hour 0 and its lines behind the third.
-fn said(text: &[u8]) -> (i64, usize) {
-    let lines = cut_block(text).lines;
-    match HourRecord::read(&lines) {
-        Ok(record) => (record.day_ahead.hour, record.count),
-        Err(_) => {
-            let behind = lines.len().saturating_sub(LINES_BEFORE);
-            (0, behind.min(MOST_INTERVALS))
-        }
     }
 }
 

@@ -5,22 +5,23 @@ use std::time::Instant;
 use std::{fmt::Write as _, io, io::Write as _};
 
 use compare::arguments::Arguments;
-use compare::events;
 use compare::tally::{shown, write_failure, Tally, ENOUGH};
 use library::call::{Call, Outcome};
-use library::reached::{Answered, AtEnd, Reached};
+use library::export::{Export, EXPORTS};
+use library::reached::{AtEnd, Reached};
 use second::{Run, Way};
 
 const USAGE: &str = "\
 library [--seed N] [--count M] [--only INDEX] [--all] [--out DIR]
 library --show INDEX [--seed N]
 
-Makes M blocks from the seed, lends each one to the proved library and to the
-second program, with a row that is too short, exact or too long, and compares
-the reply, the numbers and every entry of the row. A call that fails is written
-to DIR, target/compare without --out. --only compares the call of one index,
---show prints what it lends. --all counts every event that was reached. The
-exit status is 1 if anything failed or if a wanted event was never reached.
+Makes M blocks of units and M of internal controllable lines from the seed,
+lends each one to the proved library and to the second program, with a row that
+is too short, exact or too long, and compares the reply, the numbers and every
+entry of the row. A call that fails is written to DIR, target/compare without
+--out. --only compares the two calls of one index, --show prints what they
+lend. --all counts every event that was reached. The exit status is 1 if
+anything failed or if a wanted event was never reached.
 ";
 
 fn main() -> ExitCode {
@@ -46,13 +47,25 @@ fn main() -> ExitCode {
 }
 
 fn show(seed: u64, index: usize) -> io::Result<()> {
-    let call = Call::new(seed, index);
     let mut out = io::stdout().lock();
-    write!(out, "{call}")?;
-    out.write_all(&shown(call.text()))
+    for export in EXPORTS {
+        let call = Call::new(export, seed, index);
+        write!(out, "{call}")?;
+        out.write_all(&shown(call.text()))?;
+    }
+    Ok(())
 }
 
 fn compare_all(arguments: &Arguments) -> io::Result<Tally> {
+    let mut sum = Tally::default();
+    for export in EXPORTS {
+        sum.add(compare_one(export, arguments)?);
+    }
+    sum.end();
+    Ok(sum)
+}
+
+fn compare_one(export: &'static Export, arguments: &Arguments) -> io::Result<Tally> {
     let start = Instant::now();
     let cases = arguments.cases();
     let mut tally = Tally::default();
@@ -62,7 +75,7 @@ fn compare_all(arguments: &Arguments) -> io::Result<Tally> {
         if tally.failed >= ENOUGH {
             break;
         }
-        let call = Call::new(arguments.seed, index);
+        let call = Call::new(export, arguments.seed, index);
         let (second, archive) = (call.of_second(&mut run), call.of_archive());
         tally.count(call.recipe, second.number != 0);
         reached.note(call.answered(second.number), call.at_end(second.number));
@@ -72,7 +85,7 @@ fn compare_all(arguments: &Arguments) -> io::Result<Tally> {
     }
     tally.trace = run.trace;
     let seconds = start.elapsed().as_secs_f64();
-    println!("library: {} calls in {seconds:.1} s", cases.len());
+    println!("{}: {} calls in {seconds:.1} s", export.name, cases.len());
     println!("seed {}", arguments.seed);
     tally.report(arguments.all);
     reached.report();
@@ -80,11 +93,11 @@ fn compare_all(arguments: &Arguments) -> io::Result<Tally> {
     if done < cases.len() {
         println!("stopped after {done} of {}", cases.len());
     } else if arguments.only.is_none() {
-        tally.judge_events(&events::of_block());
-        tally.judge("answers", Answered::all().len(), &reached.missing());
+        let answers = (export.answers)();
+        tally.judge_events(&(export.wanted)());
+        tally.judge("answers", answers.len(), &reached.missing(&answers));
         tally.judge("last hours", AtEnd::all().len(), &reached.missing_at_end());
     }
-    tally.end();
     Ok(tally)
 }
 
@@ -96,7 +109,7 @@ fn write(
     second: &Outcome,
     archive: &Outcome,
 ) -> io::Result<String> {
-    let (seed, recipe) = (arguments.seed, call.recipe);
+    let (name, seed, recipe) = (call.export.name, arguments.seed, call.recipe);
     let mut about = format!("library of seed {seed}\nmade as: {recipe}\nindex: {index}\n");
     // Appending to a string cannot fail.
     let _ = writeln!(about, "\n--- what is lent\n{call}");
@@ -104,7 +117,7 @@ fn write(
     let _ = writeln!(about, "--- the library's answer\n{archive:?}\n");
     let mut file = about.into_bytes();
     file.extend(shown(call.text()));
-    let name = format!("failing-library-{seed}-{index}.txt");
+    let name = format!("failing-library-{name}-{seed}-{index}.txt");
     let path = write_failure(&arguments.out, &name, &file)?;
     let difference = difference(second, archive);
     Ok(format!("{} ({recipe}): {difference}", path.display()))

@@ -92,6 +92,13 @@ impl Answered {
         all
     }
 
+    /// The same for the blocks that no derate can refuse.
+    pub fn all_but_derate() -> Vec<Self> {
+        let mut all = Answered::all();
+        all.retain(|answered| answered.number != 6);
+        all
+    }
+
     /// FORM and RANGE come before the hour is looked at, and another hour goes
     /// no further than ORDER. An excluded hour asks for neither DERATE nor
     /// REACH; room is asked for last.
@@ -186,11 +193,11 @@ impl Reached {
         self.at_end.insert(at_end);
     }
 
-    /// The answers that were never reached.
-    pub fn missing(&self) -> Vec<Answered> {
-        let mut all = Answered::all();
-        all.retain(|answered| !self.answers.contains_key(answered));
-        all
+    /// Those of these answers that were never reached.
+    pub fn missing(&self, wanted: &[Answered]) -> Vec<Answered> {
+        let mut missing = wanted.to_vec();
+        missing.retain(|answered| !self.answers.contains_key(answered));
+        missing
     }
 
     /// The last hours that were never reached.
@@ -231,6 +238,18 @@ mod tests {
     fn room_is_asked_for_with_every_short_row() {
         let room = |answered: &Answered| answered.number == 8;
         assert_eq!(Answered::all().iter().filter(|a| room(a)).count(), 8);
+    }
+
+    #[test]
+    fn a_derate_refuses_hours_that_are_not_excluded() {
+        let (all, rest) = (Answered::all(), Answered::all_but_derate());
+        let derates = all.iter().filter(|answered| !rest.contains(answered));
+        // Any hour or the block's own, with a row of each kind.
+        assert_eq!(derates.clone().count(), 2 * Room::ALL.len());
+        assert_eq!(all.len() - rest.len(), derates.clone().count());
+        for derate in derates {
+            assert!(derate.number == 6 && !derate.excluded, "{derate:?}");
+        }
     }
 
     #[test]

@@ -1,29 +1,30 @@
-//! The day sheet: a header, the hours of the day and their total.
+//! The day sheet: a header, the hours of the day and their total. A line's day
+//! has another header and blocks of another kind, and all else in common.
 
 use std::fmt;
 
 use crate::header::{read_header, FORMS};
-use crate::hour::{judge_lines, Answer, Ask};
-use crate::record::MOST_INTERVALS;
+use crate::hour::{judge_kind, Answer, Ask};
+use crate::record::{Kind, Unit, MOST_INTERVALS};
 use crate::refusal::Refusal;
 use crate::text::cut_block;
-use crate::trace::Event;
+use crate::trace::{Event, Trace};
 use crate::Run;
 
 pub use crate::header::{Header, Marks, HOURS};
 
 /// A day whose header is good.
 #[derive(Clone, Debug, PartialEq, Eq)]
-pub struct Day {
+pub struct Day<H = Header> {
     /// The header.
-    pub header: Header,
+    pub header: H,
     /// The answer for each block place of the day.
     pub hours: Vec<Answer>,
     /// Whether bytes follow the last of them.
     pub surplus: bool,
 }
 
-impl Day {
+impl<H> Day<H> {
     /// The sum of the hours; none if an hour was refused or bytes follow.
     pub fn total(&self) -> Option<i128> {
         let sum: Option<i128> = self.hours.iter().map(Answer::cents).sum();
@@ -33,15 +34,15 @@ impl Day {
 
 /// The answer to a day sheet.
 #[derive(Clone, Debug, PartialEq, Eq)]
-pub enum DayAnswer {
+pub enum DayAnswer<H = Header> {
     /// The header is good; each hour has its own answer.
-    Judged(Box<Day>),
+    Judged(Box<Day<H>>),
     /// The header is refused.
     Refused(Refusal),
 }
 
 /// Prints the answer as the program `day` does.
-impl fmt::Display for DayAnswer {
+impl<H> fmt::Display for DayAnswer<H> {
     fn fmt(&self, out: &mut fmt::Formatter<'_>) -> fmt::Result {
         match self {
             DayAnswer::Refused(refusal) => writeln!(out, "{refusal}"),
@@ -50,7 +51,7 @@ impl fmt::Display for DayAnswer {
     }
 }
 
-fn print_day(day: &Day, out: &mut fmt::Formatter<'_>) -> fmt::Result {
+fn print_day<H>(day: &Day<H>, out: &mut fmt::Formatter<'_>) -> fmt::Result {
     for (place, answer) in day.hours.iter().enumerate() {
         match answer {
             Answer::Paid(paid) => writeln!(out, "hour={place} pay={}", paid.cents)?,
@@ -63,13 +64,42 @@ fn print_day(day: &Day, out: &mut fmt::Formatter<'_>) -> fmt::Result {
     }
 }
 
+/// What a good header says of the hours below it.
+pub(crate) trait Head {
+    /// The kind of these hours.
+    type Kind: Kind;
+
+    /// How many there are.
+    fn hours(&self) -> i64;
+
+    /// Whether each of them is excluded.
+    fn excluded(&self) -> Vec<bool>;
+
+    /// Notes what the marks say of one of them.
+    fn note(&self, hour: usize, trace: &mut Trace);
+}
+
+impl Head for Header {
+    type Kind = Unit;
+
+    fn hours(&self) -> i64 {
+        self.hours
+    }
+
+    fn excluded(&self) -> Vec<bool> {
+        Header::excluded(self)
+    }
+
+    fn note(&self, hour: usize, trace: &mut Trace) {
+        Header::note(self, hour, trace);
+    }
+}
+
 /// Judges a day sheet.
 pub fn judge(text: &[u8], run: &mut Run) -> DayAnswer {
     let head = cut_block(text);
-    match read_header(&head, &FORMS, &mut run.trace) {
-        Ok(header) => DayAnswer::Judged(Box::new(judge_hours(header, head.rest, run))),
-        Err(refusal) => DayAnswer::Refused(refusal),
-    }
+    let header = read_header(&head, &FORMS, &mut run.trace);
+    judge_below(header, head.rest, run)
 }
 
 /// What the program `day` prints for its input.
@@ -77,10 +107,23 @@ pub fn program(text: &[u8], run: &mut Run) -> String {
     judge(text, run).to_string()
 }
 
+/// The answer to a day whose header has been judged, and whose blocks are the
+/// given text.
+pub(crate) fn judge_below<H: Head>(
+    header: Result<H, Refusal>,
+    text: &[u8],
+    run: &mut Run,
+) -> DayAnswer<H> {
+    match header {
+        Ok(header) => DayAnswer::Judged(Box::new(judge_hours(header, text, run))),
+        Err(refusal) => DayAnswer::Refused(refusal),
+    }
+}
+
 /// One answer for each block place. A fault in one block does not touch the
 /// next: the text is cut at its empty lines whatever stands between them.
-fn judge_hours(header: Header, text: &[u8], run: &mut Run) -> Day {
-    run.trace.note(Event::DayHours(header.hours));
+fn judge_hours<H: Head>(header: H, text: &[u8], run: &mut Run) -> Day<H> {
+    run.trace.note(Event::DayHours(header.hours()));
     let mut rest = text;
     let mut hours = Vec::new();
     for (place, excluded) in header.excluded().into_iter().enumerate() {
@@ -88,11 +131,11 @@ fn judge_hours(header: Header, text: &[u8], run: &mut Run) -> Day {
         let ask = Ask {
             excluded,
             expected: i64::try_from(place).ok(),
-            hours: header.hours,
+            hours: header.hours(),
         };
         let block = cut_block(rest);
         let mut row = [0; MOST_INTERVALS];
-        hours.push(judge_lines(&block.lines, ask, &mut row, run));
+        hours.push(judge_kind::<H::Kind>(&block.lines, ask, &mut row, run));
         rest = block.rest;
     }
     let surplus = !rest.is_empty();

@@ -1,17 +1,17 @@
 //! The header of a day sheet: the unit, its hours and their marks, and who is
 //! excluded by them.
 
-use std::fmt::Write;
-
-use crate::refusal::{Check, Refusal};
-use crate::text::{read_at, write_pair, Cut, Fault, Line, LineFault, Pairs, DAY_HOURS, MARK, NAME};
+use crate::head::{
+    all_good, ends_at, judged, one_number, one_row, row_length, write_number, write_row,
+};
+use crate::refusal::Refusal;
+use crate::text::{read_at, Cut, LineFault, DAY_HOURS, MARK, NAME};
 use crate::trace::{Event, Reason, Spot, Trace};
+
+pub use crate::head::Marks;
 
 /// Hours of a day whose sheet does not say them.
 pub const HOURS: usize = 24;
-
-/// A row of marks: the digit of each hour, hour 0 first.
-pub type Marks = Vec<u8>;
 
 /// The forms of a sheet.
 pub(crate) const FORMS: [i64; 2] = [PLAIN_FORM, COUNTED_FORM];
@@ -94,14 +94,8 @@ impl Header {
         for (i, key) in EXCEPTIONS.into_iter().enumerate() {
             header.x[i] = read_at(lines, above + 4 + i, |line| one_row(line, key, digits))?;
         }
-        // The line behind x6 has to be there, and has to be empty.
-        let last = above + 10;
-        if lines.len() >= last {
-            return Err((last, Fault::Extra));
-        }
-        if !cut.closed {
-            return Err((last, Fault::Absent));
-        }
+        // The line behind x6.
+        ends_at(cut, above + 10)?;
         Ok(header)
     }
 
@@ -117,10 +111,7 @@ impl Header {
         good.push(self.cat.iter().all(|digit| CATEGORIES.contains(digit)));
         let is_mark = |digit: &u8| MARK.missed(i64::from(*digit)).is_none();
         good.extend(self.x.iter().map(|marks| marks.iter().all(is_mark)));
-        match good.iter().position(|good| !good) {
-            Some(i) => Err(Refusal::new(Check::Range, i + 1)),
-            None => Ok(()),
-        }
+        all_good(&good)
     }
 
     /// Every reason for which the hour is excluded; none if it is eligible.
@@ -196,16 +187,13 @@ pub(crate) fn read_header(
     forms: &[i64],
     trace: &mut Trace,
 ) -> Result<Header, Refusal> {
-    let read = Header::read(head).map_err(|(line, fault)| {
-        trace.note(Event::Malformed(spot_of(head, line), fault));
-        Refusal::new(Check::Form, line)
-    });
-    let judged = read.and_then(|header| header.check_ranges(forms).map(|()| header));
-    if let Err(refusal) = judged {
-        let spot = spot_of(head, refusal.place);
-        trace.note(Event::Refused(refusal.check, spot));
-    }
-    judged
+    let in_range = |header: &Header| header.check_ranges(forms);
+    judged(
+        Header::read(head),
+        in_range,
+        |line| spot_of(head, line),
+        trace,
+    )
 }
 
 /// The number that decides the layout.
@@ -219,44 +207,4 @@ fn spot_of(head: &Cut<'_>, line: usize) -> Spot {
         Ok(COUNTED_FORM) => Spot::CountedHeader(line),
         _ => Spot::Header(line),
     }
-}
-
-/// The digits that a row of marks must have; any number of them where no day
-/// has so many hours, as the count alone is then to blame.
-fn row_length(hours: i64) -> Option<usize> {
-    let is_day = DAY_HOURS.missed(hours).is_none();
-    usize::try_from(hours).ok().filter(|_| is_day)
-}
-
-fn one_number(line: Line<'_>, key: &str) -> Result<i64, Fault> {
-    let mut pairs = Pairs::of(line)?;
-    let value = pairs.value(key)?;
-    pairs.end()?;
-    Ok(value)
-}
-
-fn one_row(line: Line<'_>, key: &str, length: Option<usize>) -> Result<Marks, Fault> {
-    let mut pairs = Pairs::of(line)?;
-    let row = pairs.bytes(key)?;
-    pairs.end()?;
-    let fits = length.is_none_or(|length| row.len() == length);
-    if !fits || !row.iter().all(u8::is_ascii_digit) {
-        return Err(Fault::Marks);
-    }
-    Ok(row.iter().map(|digit| digit - b'0').collect())
-}
-
-fn write_number(text: &mut String, key: &str, value: i64) {
-    write_pair(text, key, &value);
-    text.push('\n');
-}
-
-fn write_row(text: &mut String, key: &str, marks: &Marks) {
-    text.push_str(key);
-    text.push('=');
-    for mark in marks {
-        // Appending to a string cannot fail.
-        let _ = write!(text, "{mark}");
-    }
-    text.push('\n');
 }

@@ -2,8 +2,7 @@
 
 use std::fmt::Write;
 
-use crate::interval;
-use crate::record::{HourRecord, MOST_INTERVALS};
+use crate::record::{Kind, Record, Unit, MOST_INTERVALS};
 use crate::refusal::{Check, Refusal};
 use crate::text::{cut_block, hour_in_day, Line, LineFault, Number, DAY_HOURS};
 use crate::trace::{Event, Spot, Trace};
@@ -73,15 +72,30 @@ pub fn judge_block(block: &[u8], ask: Ask, row: &mut [i64], run: &mut Run) -> An
 
 /// Judges a block that is cut into its lines.
 pub fn judge_lines(lines: &[Line<'_>], ask: Ask, row: &mut [i64], run: &mut Run) -> Answer {
-    let answer = match HourRecord::read(lines) {
+    judge_kind::<Unit>(lines, ask, row, run)
+}
+
+/// Judges the lines of a block of some kind.
+pub(crate) fn judge_kind<K: Kind>(
+    lines: &[Line<'_>],
+    ask: Ask,
+    row: &mut [i64],
+    run: &mut Run,
+) -> Answer {
+    let answer = match Record::<K>::read(lines) {
         Ok(record) => settle(&record, ask, row, run),
         Err(fault) => Err(malformed(fault, &mut run.trace)),
     };
     report(answer, &mut run.trace)
 }
 
-/// Judges a record as the block that it stands for.
-pub fn judge_record(record: &HourRecord, ask: Ask, row: &mut [i64], run: &mut Run) -> Answer {
+/// Judges a record, of whatever kind, as the block that it stands for.
+pub fn judge_record<K: Kind>(
+    record: &Record<K>,
+    ask: Ask,
+    row: &mut [i64],
+    run: &mut Run,
+) -> Answer {
     let answer = match record.form() {
         Ok(()) => settle(record, ask, row, run),
         Err(fault) => Err(malformed(fault, &mut run.trace)),
@@ -128,11 +142,17 @@ fn malformed((line, fault): LineFault, trace: &mut Trace) -> Refusal {
 }
 
 /// Checks 2 to 8 and the payment of an hour in good form.
-fn settle(record: &HourRecord, ask: Ask, row: &mut [i64], run: &mut Run) -> Result<Paid, Refusal> {
+fn settle<K: Kind>(
+    record: &Record<K>,
+    ask: Ask,
+    row: &mut [i64],
+    run: &mut Run,
+) -> Result<Paid, Refusal> {
+    let hour = K::hour(&record.day_ahead);
     ranges_in_day(record.lines_of_numbers(), ask.hours, &mut run.trace)?;
-    order(record.day_ahead.hour, ask.expected)?;
+    order(hour, ask.expected)?;
     curves(record, &mut run.trace)?;
-    seconds(record)?;
+    whole_hour(record.used().iter().map(K::seconds))?;
     let contributions = contributions(record, ask.excluded, run)?;
     let entries = row.get_mut(..contributions.len());
     let entries = entries.ok_or(Refusal::new(Check::Room, 0))?;
@@ -141,7 +161,7 @@ fn settle(record: &HourRecord, ask: Ask, row: &mut [i64], run: &mut Run) -> Resu
     }
     let grains = contributions.iter().sum();
     Ok(Paid {
-        hour: record.day_ahead.hour,
+        hour,
         intervals: contributions.len(),
         grains,
         cents: cents(grains),
@@ -183,7 +203,7 @@ pub(crate) fn order(says: i64, expected: Option<i64>) -> Result<(), Refusal> {
     }
 }
 
-fn curves(record: &HourRecord, trace: &mut Trace) -> Result<(), Refusal> {
+fn curves<K: Kind>(record: &Record<K>, trace: &mut Trace) -> Result<(), Refusal> {
     for (line, curve) in [(2, &record.da), (3, &record.rt)] {
         if let Some(fault) = curve.fault() {
             let refusal = Refusal::new(Check::Curve, line);
@@ -192,10 +212,6 @@ fn curves(record: &HourRecord, trace: &mut Trace) -> Result<(), Refusal> {
         }
     }
     Ok(())
-}
-
-fn seconds(record: &HourRecord) -> Result<(), Refusal> {
-    whole_hour(record.used().iter().map(|interval| interval.s))
 }
 
 /// SECONDS, unless the intervals make an hour.
@@ -210,13 +226,18 @@ pub(crate) fn whole_hour(seconds: impl Iterator<Item = i64>) -> Result<(), Refus
 
 /// The contributions of all intervals, up to the first that a derate or a
 /// curve cannot serve. An excluded hour asks neither.
-fn contributions(record: &HourRecord, excluded: bool, run: &mut Run) -> Result<Vec<i128>, Refusal> {
+fn contributions<K: Kind>(
+    record: &Record<K>,
+    excluded: bool,
+    run: &mut Run,
+) -> Result<Vec<i128>, Refusal> {
     if excluded {
+        K::note_excluded(record, run);
         return Ok(vec![0; record.used().len()]);
     }
     let mut contributions = Vec::new();
     for (i, interval) in record.used().iter().enumerate() {
-        let grains = interval::contribution(record, interval, run);
+        let grains = K::contribution(record, interval, run);
         contributions.push(grains.map_err(|check| Refusal::new(check, i + 1))?);
     }
     Ok(contributions)

@@ -1,17 +1,20 @@
 //! The second program: it answers every text of document 01 (an hour block,
-//! a day sheet, a curtailed import), for days of 23, 24 and 25 hours, with
-//! every check, and moves stored sheets from one form to the other, so that its
-//! answers can be laid beside those of the engine.
+//! a day sheet, a curtailed import) and a line's day, for days of 23, 24 and 25
+//! hours, with every check, and moves stored sheets from one form to the other,
+//! so that its answers can be laid beside those of the engine.
 //!
-//! The short way in is [`hour_text`], [`day_text`] and [`import_text`]: bytes
-//! in, the printed answer out; and [`up_text`] and [`down_text`]: bytes in, the
-//! moved sheet or the refusal out. Behind them stand
+//! The short way in is [`hour_text`], [`day_text`], [`import_text`] and
+//! [`line_text`]: bytes in, the printed answer out; and [`up_text`] and
+//! [`down_text`]: bytes in, the moved sheet or the refusal out. Behind them
+//! stand
 //!
 //! - [`hour`]: one hour, from a lent block or from an [`HourRecord`], with the
 //!   lent row of contributions;
 //! - [`header`]: the header of a day and who is excluded by its marks;
 //! - [`day`]: the header, the day's hours and their total;
 //! - [`import`]: the curtailed import of one day;
+//! - [`mod@line`]: the day of an internal controllable line, and one of its blocks
+//!   with a lent row;
 //! - [`archive`]: a stored sheet in the other form;
 //! - [`trace`]: what an input reached, collected on the side.
 //!
@@ -42,10 +45,15 @@ pub mod curve;
 pub mod day;
 pub mod derate;
 pub mod energy;
+mod head;
 pub mod header;
 pub mod hour;
 pub mod import;
 pub mod interval;
+pub mod keys;
+pub mod line;
+pub mod line_event;
+mod line_head;
 pub mod record;
 pub mod refusal;
 pub mod text;
@@ -56,6 +64,8 @@ pub use curve::{Curve, Step, Way};
 pub use day::{Day, DayAnswer, Header};
 pub use hour::{Answer, Ask, Paid};
 pub use import::ImportAnswer;
+pub use line::{LineAhead, LineHead, LineInterval, LineRecord};
+pub use line_event::{LineBranch, LineEvent};
 pub use record::{DayAhead, HourRecord, Interval};
 pub use refusal::{Check, Refusal};
 pub use trace::{Event, Trace};
@@ -100,6 +110,11 @@ pub fn day_text(input: &[u8]) -> String {
 /// What the program `import` prints for this input.
 pub fn import_text(input: &[u8]) -> String {
     import::program(input, &mut Run::quiet(Way::Steps))
+}
+
+/// What the program `line` prints for this input.
+pub fn line_text(input: &[u8]) -> String {
+    line::program(input, &mut Run::quiet(Way::Steps))
 }
 
 /// What the program `up` makes of this input.

@@ -1,9 +1,15 @@
 //! An hour as a record: the numbers of its block, as they stand.
 
+use std::fmt::Debug;
+
 use crate::curve::{Curve, MOST_STEPS};
+use crate::interval;
+use crate::refusal::Check;
 use crate::text::{
-    read_at, sheet_line, Fault, Line, LineFault, Number, BID, ENERGY, HOUR, POWER, PRICE, SECONDS,
+    read_at, sheet_line, Fault, Line, LineFault, Number, SheetLine, BID, ENERGY, HOUR, POWER,
+    PRICE, SECONDS,
 };
+use crate::Run;
 
 /// The most intervals an hour can have.
 pub const MOST_INTERVALS: usize = 30;
@@ -83,13 +89,67 @@ sheet_line! {
     }
 }
 
+/// A kind of hour: what its line 1 and its interval lines say, and what one of
+/// its intervals contributes. All else is the same for every kind.
+pub trait Kind: Clone + Copy + Debug + Default + PartialEq + Eq {
+    /// Line 1.
+    type Ahead: SheetLine;
+    /// Lines 4 to 33.
+    type Interval: SheetLine;
+
+    /// The hour that line 1 says.
+    fn hour(line: &Self::Ahead) -> i64;
+
+    /// The seconds of an interval.
+    fn seconds(interval: &Self::Interval) -> i64;
+
+    /// The grains of one interval of an eligible hour, or the check that
+    /// refuses it.
+    fn contribution(
+        record: &Record<Self>,
+        interval: &Self::Interval,
+        run: &mut Run,
+    ) -> Result<i128, Check>;
+
+    /// Notes what an excluded hour was spared, if the trace has a word for it.
+    fn note_excluded(_: &Record<Self>, _: &mut Run) {}
+}
+
+/// The hours of a generator.
+#[derive(Clone, Copy, Debug, Default, PartialEq, Eq)]
+pub struct Unit;
+
+impl Kind for Unit {
+    type Ahead = DayAhead;
+    type Interval = Interval;
+
+    fn hour(line: &DayAhead) -> i64 {
+        line.hour
+    }
+
+    fn seconds(interval: &Interval) -> i64 {
+        interval.s
+    }
+
+    fn contribution(
+        record: &HourRecord,
+        interval: &Interval,
+        run: &mut Run,
+    ) -> Result<i128, Check> {
+        interval::contribution(record, interval, run)
+    }
+}
+
+/// One hour of a generator.
+pub type HourRecord = Record<Unit>;
+
 /// One hour. It stands for the block that prints these numbers, so every check
 /// names the line on which a number would stand. Any number can be in any
 /// field; what lies behind a count is not looked at.
 #[derive(Clone, Debug, Default, PartialEq, Eq)]
-pub struct HourRecord {
+pub struct Record<K: Kind> {
     /// Line 1.
-    pub day_ahead: DayAhead,
+    pub day_ahead: K::Ahead,
     /// Line 2.
     pub da: Curve,
     /// Line 3.
@@ -97,22 +157,22 @@ pub struct HourRecord {
     /// How many intervals there are; more than 30 stand in no sheet.
     pub count: usize,
     /// Lines 4 and on.
-    pub intervals: [Interval; MOST_INTERVALS],
+    pub intervals: [K::Interval; MOST_INTERVALS],
 }
 
-impl HourRecord {
+impl<K: Kind> Record<K> {
     /// Reads the lines of a block; the first line at fault is named.
     pub fn read(lines: &[Line<'_>]) -> Result<Self, LineFault> {
-        let mut record = HourRecord {
-            day_ahead: read_at(lines, 1, DayAhead::read)?,
+        let mut record = Record {
+            day_ahead: read_at(lines, 1, K::Ahead::read)?,
             da: read_at(lines, 2, |line| Curve::read(line, "da"))?,
             rt: read_at(lines, 3, |line| Curve::read(line, "rt"))?,
             count: lines.len() - LINES_BEFORE,
-            ..HourRecord::default()
+            ..Record::default()
         };
         let places = LINES_BEFORE + 1..=lines.len();
         for (interval, place) in record.intervals.iter_mut().zip(places) {
-            *interval = read_at(lines, place, Interval::read)?;
+            *interval = read_at(lines, place, K::Interval::read)?;
         }
         record.form()?;
         Ok(record)
@@ -134,13 +194,13 @@ impl HourRecord {
     }
 
     /// The intervals that the count says.
-    pub fn used(&self) -> &[Interval] {
+    pub fn used(&self) -> &[K::Interval] {
         &self.intervals[..self.count.min(MOST_INTERVALS)]
     }
 
     /// Takes these intervals and their count. More than 30 are counted, but
     /// only the first 30 are held.
-    pub fn set_intervals(&mut self, intervals: &[Interval]) {
+    pub fn set_intervals(&mut self, intervals: &[K::Interval]) {
         self.count = intervals.len();
         for (held, given) in self.intervals.iter_mut().zip(intervals) {
             *held = *given;
@@ -154,7 +214,7 @@ impl HourRecord {
             self.da.numbers("da"),
             self.rt.numbers("rt"),
         ];
-        lines.extend(self.used().iter().map(Interval::numbers));
+        lines.extend(self.used().iter().map(SheetLine::numbers));
         lines
     }
 

@@ -7,6 +7,7 @@ use std::collections::BTreeMap;
 use std::fmt;
 
 use crate::curve::CurveFault;
+use crate::line_event::{self, LineEvent};
 use crate::refusal::{Check, Refusal};
 use crate::text::{Fault, Side, DAY_HOURS};
 
@@ -73,6 +74,8 @@ pub enum Spot {
     ImportWholeHour,
     /// Behind the last block of an import.
     ImportSurplus,
+    /// A line of the head of a line's day, counted from 1; 4 is the empty one.
+    LineHead(usize),
 }
 
 impl Spot {
@@ -272,6 +275,8 @@ pub enum Event {
     Import(ImportTest),
     /// An import hour's sum against 0.
     ImportSum(Ordering),
+    /// What the day of an internal controllable line reached.
+    Line(LineEvent),
 }
 
 impl Event {
@@ -311,6 +316,7 @@ impl Event {
             spots.push((Check::Derate, Spot::Interval(nth)));
             spots.push((Check::Reach, Spot::Interval(nth)));
         }
+        spots.extend(line_event::of_head());
         let refused = |(check, spot)| Event::Refused(check, spot);
         spots.into_iter().map(refused).collect()
     }

@@ -3,8 +3,9 @@
 
 mod common;
 
+use common::line::*;
 use common::*;
-use second::{archive, day, hour, import, Check, Header, Moved, Run, Way};
+use second::{archive, day, hour, import, line, Check, Header, Moved, Run, Way};
 use second::{day_text, down_text, up_text};
 
 /// Whether a printed line is `key=number` pairs with these keys; `-` may stand
@@ -70,6 +71,7 @@ fn ask_all(text: &[u8]) {
         (hour::program(text, run), is_hour_answer as fn(&str) -> bool),
         (day::program(text, run), is_day_answer),
         (import::program(text, run), is_import_answer),
+        (line::program(text, run), is_day_answer),
     ] {
         assert!(
             answer.ends_with('\n') && fits(&answer),
@@ -134,6 +136,20 @@ fn changed_hours() {
     let mut numbers = Numbers(10);
     for _ in 0..3000 {
         ask_all(&changed(WORKED.as_bytes(), &mut numbers));
+    }
+}
+
+#[test]
+fn changed_lines() {
+    let mut numbers = Numbers(12);
+    for _ in 0..300 {
+        for hours in 23..=25 {
+            let day = line_day(hours);
+            ask_all(&changed(day.as_bytes(), &mut numbers));
+            // Near the start, so that heads are met as often as blocks.
+            let (head, rest) = day.as_bytes().split_at(60);
+            ask_all(&[&changed(head, &mut numbers), rest].concat());
+        }
     }
 }
 

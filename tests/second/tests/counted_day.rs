@@ -9,19 +9,6 @@ fn print(text: &str) -> String {
     day_text(text.as_bytes())
 }
 
-/// The printed hours of one cent, with what the other ones print.
-fn printed(hours: usize, others: &[(usize, &str)], total: &str) -> String {
-    let mut says = vec!["pay=1"; hours];
-    for (hour, other) in others {
-        says[*hour] = other;
-    }
-    let lines = says.iter().enumerate();
-    let lines: String = lines
-        .map(|(h, says)| format!("hour={h} {says}\n"))
-        .collect();
-    format!("{lines}total={total}\n")
-}
-
 /// The blocks of one cent each, for so many hours from 0.
 fn blocks(hours: usize) -> String {
     let records = (0..hours as i64).map(one_cent_hour);

@@ -20,13 +20,7 @@ fn header_refused(text: &str, check: u8, line: usize) {
 
 /// The printed hours, for the given ones with what they print.
 fn printed(others: &[(usize, &str)], total: &str) -> String {
-    let line = |hour: usize| {
-        let other = others.iter().find(|(place, _)| *place == hour);
-        let says = other.map_or("pay=1", |(_, says)| says);
-        format!("hour={hour} {says}\n")
-    };
-    let hours: String = (0..24).map(line).collect();
-    format!("{hours}total={total}\n")
+    common::printed(24, others, total)
 }
 
 fn good() -> String {

@@ -1,13 +1,14 @@
-//! Every refusal at every kind of place, every exclusion and every rule for
-//! LL and UL, as the trace of the inputs that reach them.
+//! Every refusal at every kind of place and every exclusion, as the trace of the
+//! inputs that reach them.
 
 mod common;
 
+use common::line::line_day;
 use common::*;
 use second::day::HOURS;
-use second::trace::{Branch, DerateKind, ImportTest, Nth, Reason, Spot, Term};
-use second::{archive, day, hour, import, Ask, Check, Curve, Event, Header, HourRecord, Interval};
-use second::{Moved, Run};
+use second::trace::{Branch, ImportTest, Nth, Reason, Spot};
+use second::{archive, day, hour, import, line, Ask, Check, Curve, Event, Header, HourRecord};
+use second::{Interval, LineEvent, Moved, Run};
 
 /// An hour of thirty intervals in each of which a unit runs below its
 /// day-ahead schedule.
@@ -113,6 +114,20 @@ fn refused_counted_headers(run: &mut Run) {
     }
 }
 
+fn refused_line_heads(run: &mut Run) {
+    let text = line_day(25);
+    let mut judge = |text: String| {
+        line::judge(text.as_bytes(), run);
+    };
+    for line in 1..=3 {
+        judge(with_line(&text, line, "x"));
+    }
+    judge(without_line(&text, 4));
+    judge(with_value(&text, 1, "line", "0"));
+    judge(with_value(&text, 2, "hours", "26"));
+    judge(with_value(&text, 3, "mark", &"3".repeat(25)));
+}
+
 /// What only stored sheets are refused for: their way.
 fn refused_archives(run: &mut Run) {
     let text = counted_day(25);
@@ -158,6 +173,7 @@ fn every_refusal_at_every_kind_of_place() {
     refused_hours(&mut run);
     refused_headers(&mut run);
     refused_counted_headers(&mut run);
+    refused_line_heads(&mut run);
     refused_archives(&mut run);
     refused_imports(&mut run);
     assert_eq!(run.trace.missing(Event::refusals()), []);
@@ -191,6 +207,20 @@ fn every_count_of_hours() {
 }
 
 #[test]
+fn every_mark_of_a_line() {
+    let mut run = Run::default();
+    for hours in 23..=25 {
+        let mut row = "0120".repeat(6) + "1";
+        row.truncate(hours);
+        let text = with_value(&line_day(hours), 3, "mark", &row);
+        line::judge(text.as_bytes(), &mut run);
+        assert!(run.trace.saw(Event::DayHours(hours as i64)));
+    }
+    let count = |mark| run.trace.count(Event::Line(LineEvent::Mark(mark)));
+    assert_eq!([count(0), count(1), count(2)], [35, 19, 18]);
+}
+
+#[test]
 fn every_exclusion() {
     let mut run = Run::default();
     let mut header = Header {
@@ -211,109 +241,6 @@ fn every_exclusion() {
     assert!(run.trace.saw(Event::MarkWithoutRtc(6)));
     assert!(!run.trace.saw(Event::Excluded(Reason::Spread(5, 0))));
     assert!(run.trace.saw(Event::Excluded(Reason::Spread(4, -2))));
-}
-
-/// Hours with small amounts all around zero, on curves that price them all.
-fn hour_around_zero(numbers: &mut Numbers) -> HourRecord {
-    let mut record = still_hour(5);
-    let line = &mut record.day_ahead;
-    line.en = numbers.between(-9, 9);
-    line.reg = numbers.between(0, 5);
-    (line.r1, line.r2, line.r3) = (numbers.between(0, 5), numbers.between(0, 5), 3);
-    record.da = Curve::new(-20, &[(-3, 9), (0, 1), (20, 4)]);
-    record.rt = Curve::new(-20, &[(-2, 3), (3, 2), (20, 5)]);
-    for interval in record.intervals.iter_mut().take(4) {
-        *interval = Interval {
-            en: numbers.between(-9, 9),
-            ae: numbers.between(-9, 12),
-            co: numbers.between(0, 3),
-            eop: numbers.between(-9, 9),
-            pen: numbers.between(-9, 9),
-            lim: numbers.between(-12, -5),
-            uol: Some(numbers.between(0, 40)).filter(|uol| *uol < 25),
-            r1: numbers.between(0, 5),
-            r2: numbers.between(0, 5),
-            r3: numbers.between(0, 5),
-            p1: numbers.between(-5, 9),
-            reg: numbers.between(0, 5),
-            preg: numbers.between(-5, 9),
-            breg: numbers.between(0, 5),
-            mv: numbers.between(0, 2),
-            pmv: numbers.between(0, 3),
-            ..*interval
-        };
-    }
-    record
-}
-
-#[test]
-fn every_rule_for_ll_and_ul_and_what_it_lands_on() {
-    let mut numbers = Numbers(1);
-    let mut run = Run::default();
-    for _ in 0..4000 {
-        let record = hour_around_zero(&mut numbers);
-        hour::judge_record(&record, Ask::default(), &mut [0; 4], &mut run);
-    }
-    let trace = &run.trace;
-    assert_eq!(trace.missing(Event::limits()), []);
-    use Branch::*;
-    use Term::*;
-    let lands = [
-        (
-            LowerInjectBelowEop,
-            vec![DayAhead, RealTime, Actual, Economic, Zero],
-        ),
-        (LowerInjectFromEop, vec![RealTime, Actual, Economic, Zero]),
-        (
-            LowerWithdraw,
-            vec![DayAhead, RealTime, Actual, Economic, Zero],
-        ),
-        (UpperInjectEopBetween, vec![RealTime, Actual, Economic]),
-        (UpperInjectOther, vec![RealTime, Actual, Economic]),
-        (UpperWithdraw, vec![RealTime, Actual, Economic]),
-    ];
-    for (branch, terms) in lands {
-        let wanted = terms.into_iter().map(|term| Event::Lands(branch, term));
-        assert_eq!(trace.missing(wanted), []);
-    }
-    let shared = (0..=3).map(|left_over| DerateKind::Shared { left_over });
-    let kinds = [
-        DerateKind::None,
-        DerateKind::Fits,
-        DerateKind::Tie,
-        DerateKind::SignChanged,
-        DerateKind::TooMuch,
-    ];
-    let derates = kinds.into_iter().chain(shared).map(Event::Derate);
-    assert_eq!(trace.missing(derates), []);
-    use std::cmp::Ordering::{Equal, Greater, Less};
-    let rest = [Less, Equal, Greater].into_iter().flat_map(|side| {
-        [
-            Event::Upper(side),
-            Event::Reserve(1, side),
-            Event::Reserve(2, side),
-            Event::Reserve(3, side),
-            Event::Regulation(side),
-            Event::HourSum(side),
-        ]
-    });
-    assert_eq!(trace.missing(rest), []);
-    let once = [
-        Event::Capped,
-        Event::RegulationFloor,
-        Event::Movement,
-        Event::Lagging(Less),
-        Event::Lagging(Equal),
-    ];
-    assert_eq!(trace.missing(once), []);
-}
-
-#[test]
-fn both_ways_of_summing_agree_on_whole_hours() {
-    let mut numbers = Numbers(2);
-    for _ in 0..2000 {
-        judged(&hour_around_zero(&mut numbers), Ask::default());
-    }
 }
 
 #[test]

@@ -6,12 +6,14 @@ use std::fs::File;
 use std::io::{Read, Write};
 use std::process::{Command, Output, Stdio};
 
+use common::line::*;
 use common::*;
-use second::Header;
+use second::{Header, LineHead};
 
 const HOUR: &str = env!("CARGO_BIN_EXE_hour2");
 const DAY: &str = env!("CARGO_BIN_EXE_day2");
 const IMPORT: &str = env!("CARGO_BIN_EXE_import2");
+const LINE: &str = env!("CARGO_BIN_EXE_line2");
 const UP: &str = env!("CARGO_BIN_EXE_up2");
 const DOWN: &str = env!("CARGO_BIN_EXE_down2");
 
@@ -95,6 +97,23 @@ fn days_on_which_the_clock_changes() {
 }
 
 #[test]
+fn line_prints_its_hours_and_the_total() {
+    for hours in 23..=25 {
+        let text = line_day(hours);
+        prints(LINE, &text, &printed(hours, &[], &hours.to_string()));
+        prints(LINE, &(text + "x"), &printed(hours, &[], "-"));
+    }
+    let mut blocks = line_blocks(24);
+    blocks[14] = LINE_BLOCK.to_string() + "\n";
+    blocks[15] = with_value(&blocks[15], 2, "da", "1");
+    let text = LineHead::new(24).to_text() + &blocks.concat();
+    let others = [(14, "pay=7125"), (15, "refused=7 at=1")];
+    prints(LINE, &text, &printed(24, &others, "-"));
+    prints(LINE, "", "refused=1 at=1\n");
+    prints(LINE, &LineHead::new(26).to_text(), "refused=2 at=2\n");
+}
+
+#[test]
 fn sheets_go_up_and_down() {
     let surplus = b"\x80\n\n\0 and no LF";
     let form_1 = day_of(&Header::default(), &one_cent_hours()).into_bytes();
@@ -156,10 +175,12 @@ fn a_closed_output_does_no_harm() {
     let day = day_of(&Header::default(), &one_cent_hours());
     let import = import_of(7, 0, &one_cent_imports());
     let counted = counted_day(24);
+    let line = line_day(24);
     for (program, input) in [
         (HOUR, WORKED),
         (DAY, &day),
         (IMPORT, &import),
+        (LINE, &line),
         (UP, &day),
         (DOWN, &counted),
     ] {
@@ -182,6 +203,7 @@ fn an_input_that_cannot_be_read_is_empty() {
         (HOUR, "refused=1 at=1\n"),
         (DAY, "refused=1 at=1\n"),
         (IMPORT, "refused=1 hour=- at=1\n"),
+        (LINE, "refused=1 at=1\n"),
     ] {
         let output = unreadable(program);
         assert_eq!(String::from_utf8_lossy(&output.stdout), answer);

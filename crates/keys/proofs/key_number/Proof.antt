@@ -1,7 +1,7 @@
 -- `key_number` compares key k, from the part of the table that holds it.
 use Prim.Native.Nat.{ℕ}
 use borrow.Author.Needs.{needs}
-use Rattle.keys.specs.Keys.{DA, INTERVAL, RESERVES, REGULATION, IMPORT, CURTAILED, HEADER}
+use Rattle.keys.specs.Keys.{DA, INTERVAL, RESERVES, REGULATION, IMPORT, CURTAILED, HEADER, LINE-LINE}
 use Rattle.keys.proofs.Keys.{key-first, key-from, key-none}
 use Rattle.keys.proofs.key_number.Statement.{statement}
 use Rattle.keys.proofs.key_number.Tie as tie
@@ -33,4 +33,6 @@ key-number-spec =
     (λ c. key-from CURTAILED (past (c .before .before .before .before .before)) _ _ (c .before .if7 .left) (c .curtailed-key .ensures))
     (λ c κs. search needs)
     (λ c. key-from HEADER (past (c .before .before .before .before .before)) _ _ (c .before .before .if6 .left) (c .header-key .ensures))
-    (λ c. key-none _ _ _ (c .if8 .left)))
+    (λ c κs. search needs)
+    (λ c. key-from LINE-LINE (past (c .before .before .before .before .before .before)) _ _ (c .before .before .if8 .left) (c .icl-key .ensures))
+    (λ c. key-none _ _ _ (c .if9 .left)))

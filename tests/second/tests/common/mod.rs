@@ -1,7 +1,10 @@
 //! Sheets and small changes to them, shared by the tests.
 #![allow(dead_code)]
 
+pub mod line;
+
 use second::import::{CountedImportLine, ImportHour, ImportHourLine, ImportInterval, ImportLine};
+use second::record::{Kind, Record};
 use second::{hour, Answer, Ask, Curve, DayAhead, Header, HourRecord, Interval, Run, Way};
 
 /// The block of document 01's section "Programs".
@@ -94,8 +97,21 @@ pub fn contributions(record: &HourRecord) -> Vec<i64> {
 }
 
 /// The block that a record stands for, with its closing empty line.
-pub fn closed(record: &HourRecord) -> String {
+pub fn closed<K: Kind>(record: &Record<K>) -> String {
     record.to_text() + "\n"
+}
+
+/// The printed hours of one cent, with what the other ones print.
+pub fn printed(hours: usize, others: &[(usize, &str)], total: &str) -> String {
+    let mut says = vec!["pay=1"; hours];
+    for (hour, other) in others {
+        says[*hour] = other;
+    }
+    let lines = says.iter().enumerate();
+    let lines: String = lines
+        .map(|(h, says)| format!("hour={h} {says}\n"))
+        .collect();
+    format!("{lines}total={total}\n")
 }
 
 /// A day sheet of these hours.

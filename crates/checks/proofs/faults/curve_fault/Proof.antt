@@ -1,28 +1,27 @@
 -- `faults::curve_fault` meets its contract: the first of the two curves that breaks a rule is told.
-use Rattle.tariff.specs.Hour.{curves}
-use Rattle.tariff.proofs.Ranges.{form-says}
+use Rattle.tariff.specs.Checks.{curvesIn}
 use Rattle.exact.proofs.Calls.{passes, fails}
 use Rattle.checks.proofs.faults.curve_fault.Statement.{statement}
 use Rattle.checks.proofs.faults.curve_fault.Tie as tie
 
 curve-keeps-requires : tie.Need-curve-keeps-requires
-curve-keeps-requires c κs = form-says (c .args .h) (c .pre) .0
+curve-keeps-requires c κs = c .pre .0
 
 returns : tie.Need-returns
-unfolding curves
+unfolding curvesIn
 returns c = rw (fails (c .before .curve-keeps .ensures) (c .if1 .taken))
 
 curve-keeps-requires-2 : tie.Need-curve-keeps-requires-2
-curve-keeps-requires-2 c κs = let s = c .before .before in form-says (s .args .h) (s .pre) .1
+curve-keeps-requires-2 c κs = c .before .before .pre .1
 
 returns-2 : tie.Need-returns-2
-unfolding curves
+unfolding curvesIn
 returns-2 c =
     let first = c .before .before in
     rw (passes (first .before .curve-keeps .ensures) (first .if1 .left), fails (c .before .curve-keeps2 .ensures) (c .if2 .taken))
 
 returns-3 : tie.Need-returns-3
-unfolding curves
+unfolding curvesIn
 returns-3 c =
     let first = c .before .before in
     rw (passes (first .before .curve-keeps .ensures) (first .if1 .left), passes (c .before .curve-keeps2 .ensures) (c .if2 .left))

@@ -8,7 +8,8 @@ use lib.ListN.{getD}
 use Rattle.tariff.specs.declared.Hour.{Hour}
 use Rattle.tariff.specs.Sheet.{isHour, aheadInRange, intervalInRange}
 use Rattle.tariff.specs.Reply.{firstOf}
-use Rattle.tariff.specs.Hour.{blank, interval, hoursAround, range}
+use Rattle.tariff.specs.Checks.{hoursAround, rangeIn}
+use Rattle.tariff.specs.Hour.{blank, interval, partsOf, range}
 use Rattle.tariff.proofs.Ranges.{form-says}
 use Rattle.exact.proofs.Calls.{passes, fails, handed}
 use Rattle.checks.proofs.Lines.{lineOf, lines-clear, line-fault}
@@ -34,17 +35,17 @@ joined c =
     λ i. (c .before .is-hour .ensures ∙ (λ j. isHour (around .hours-around .ensures j) (hour j))) i && c .ahead-in-range .ensures i
 
 returns : tie.Need-returns Inv-loop μ-loop
-unfolding range
+unfolding rangeIn
 returns c = rw (fails (joined (c .before)) (c .if1 .taken))
 
 returns-2 : tie.Need-returns-2 Inv-loop μ-loop
-unfolding range
+unfolding rangeIn
 returns-2 c =
     let one = c .before .before in
     rw (passes (joined (one .before)) (one .if1 .left), fails (c .before .curve-in-range .ensures) (c .if2 .taken))
 
 returns-3 : tie.Need-returns-3 Inv-loop μ-loop
-unfolding range
+unfolding rangeIn
 returns-3 c =
     let two = c .before .before in
     let one = two .before .before in
@@ -52,7 +53,7 @@ returns-3 c =
 
 -- what is left of the check when those are in range
 rest : (c : tie.After-iv Inv-loop μ-loop) → range (c .before .before .before .before .before .before .before .before .before .before .args .h) (c .before .before .before .before .before .before .before .before .before .before .args .expected) ≡ firstOf (lineOf (inRange (c .before .before .before .before .before .before .before .before .before .before .args .h)) 4) (c .before .before .before .before .before .before .before .before .before .before .args .h .n)
-unfolding range
+unfolding rangeIn
 rest c =
     let three = c .before in
     let two = three .before .before in
@@ -67,7 +68,7 @@ loop-holds c = (omega arith, below-none _)
 small : (c : tie.In-loop Inv-loop μ-loop) → c .before .loop .i < 30
 small c =
     let s = c .before .before .before .before .before .before .before .before .before .before .before .before in
-    omega (arith, form-says (s .args .h) (s .pre))
+    omega (arith, form-says (partsOf (s .args .h)) (s .pre))
 
 returns-4 : tie.Need-returns-4 Inv-loop μ-loop
 returns-4 c =

@@ -7,7 +7,8 @@ use lib.IntN.{ℤ}
 use Rattle.exact.specs.Whole.{sumTo}
 use Rattle.exact.proofs.Sums.{sum-none, sum-more}
 use Rattle.tariff.specs.declared.Hour.{Hour}
-use Rattle.tariff.specs.Hour.{blank, interval, secondsSum}
+use Rattle.tariff.specs.Checks.{secondsIn}
+use Rattle.tariff.specs.Hour.{blank, interval, partsOf}
 use Rattle.tariff.proofs.Ranges.{form-says}
 use Rattle.checks.proofs.Seconds.{one-more-fits}
 use Rattle.checks.proofs.faults.seconds_fault.Statement.{statement}
@@ -27,14 +28,14 @@ loop-holds c = (omega arith, sym (sum-none (secondsOf (c .before .args .h))))
 
 -- the loop goes over at most 30 intervals
 small : (c : tie.In-loop Inv-loop μ-loop) → c .before .loop .i < 30
-small c = let s = c .before .before .before in omega (arith, form-says (s .args .h) (s .pre .0))
+small c = let s = c .before .before .before in omega (arith, form-says (partsOf (s .args .h)) (s .pre .0))
 
 seconds-plus-requires : tie.Need-seconds-plus-requires Inv-loop μ-loop
 seconds-plus-requires c κs =
     let s = c .before .before .before .before in
     let l = c .before .before .loop in
     let h = s .args .h in
-    one-more-fits (secondsOf h) (h .n) (l .i) _ (form-says h (s .pre .0) .2) (s .pre .1) (omega arith) (l .inv .1)
+    one-more-fits (secondsOf h) (h .n) (l .i) _ (form-says (partsOf h) (s .pre .0) .2) (s .pre .1) (omega arith) (l .inv .1)
 
 loop-again : tie.Need-loop-again Inv-loop μ-loop
 loop-again c =
@@ -44,7 +45,7 @@ loop-again c =
     (omega arith, c .seconds-plus .ensures ∙ rw (sum-more (secondsOf (start .args .h)) (l .i), l .inv .1))
 
 returns : tie.Need-returns Inv-loop μ-loop
-unfolding secondsSum
+unfolding secondsIn
 returns c =
     let l = c .before .before .loop in
     let all : l .i ≡ c .before .before .before .before .args .h .n = omega arith in

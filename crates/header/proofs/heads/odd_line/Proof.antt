@@ -16,11 +16,11 @@ use Rattle.header.proofs.heads.odd_line.Statement.{statement}
 use Rattle.header.proofs.heads.odd_line.Tie as tie
 
 abbrev Inv-loop : tie.InvT-loop
-Inv-loop s two judged hours at lines j₀ j =
-    (j ≤ length (layoutBy two judged)) × ((k : ℕ) → k < j → isInRange (layoutBy two judged) hours s k ≡ true)
+Inv-loop s form judged hours at lines j₀ j =
+    (j ≤ length (layoutBy form judged)) × ((k : ℕ) → k < j → isInRange (layoutBy form judged) hours s k ≡ true)
 
 abbrev μ-loop : tie.MeasureT-loop
-μ-loop s two judged hours at lines j₀ j = length (layoutBy two judged) - j
+μ-loop s form judged hours at lines j₀ j = length (layoutBy form judged) - j
 
 loop-holds : tie.Need-loop-holds Inv-loop μ-loop
 loop-holds c = (omega arith, below-none _)
@@ -29,15 +29,15 @@ few : (c : tie.In-loop Inv-loop μ-loop) → c .before .loop .j < 12
 few c =
     let o = c .before .before in
     let s = o .before .before in
-    omega (arith, c .loop-test .taken, o .lines-of .ensures, lines-few (s .args .two) (s .args .judged))
+    omega (arith, c .loop-test .taken, o .lines-of .ensures, lines-few (s .args .form) (s .args .judged))
 
 in-range-requires : tie.Need-in-range-requires Inv-loop μ-loop
 in-range-requires c κs =
     let l = c .before in
     let o = l .before .before in
     let s = o .before .before in
-    stands (layoutBy (s .args .two) (s .args .judged)) _ _ (s .args .t2) (s .pre) (l .before .loop .j) (c .line-of .ensures)
-    (lines-keyed (s .args .two) (s .args .judged)) (omega (arith, l .loop-test .taken, o .lines-of .ensures))
+    stands (layoutBy (s .args .form) (s .args .judged)) _ _ (s .args .t2) (s .pre) (l .before .loop .j) (c .line-of .ensures)
+    (lines-keyed (s .args .form) (s .args .judged)) (omega (arith, l .loop-test .taken, o .lines-of .ensures))
 
 returns : tie.Need-returns Inv-loop μ-loop
 unfolding layoutRange
@@ -46,7 +46,7 @@ returns c =
     let l = line .before in
     let o = l .before .before in
     let s = o .before .before in
-    let layout = layoutBy (s .args .two) (s .args .judged) in
+    let layout = layoutBy (s .args .form) (s .args .judged) in
     let below : l .before .loop .j < length layout = omega (arith, l .loop-test .taken, o .lines-of .ensures) in
     let told = range-told layout _ _ (s .args .t2) (s .pre) (l .before .loop .j) (line .line-of .ensures) below in
     refused-first _ RANGE (length layout) _ (l .before .loop .inv .1) below (fails (c .before .in-range .ensures ∙ told) (c .if1 .taken))
@@ -57,7 +57,7 @@ loop-again c =
     let l = line .before in
     let o = l .before .before in
     let s = o .before .before in
-    let layout = layoutBy (s .args .two) (s .args .judged) in
+    let layout = layoutBy (s .args .form) (s .args .judged) in
     let below : l .before .loop .j < length layout = omega (arith, l .loop-test .taken, o .lines-of .ensures) in
     let told = range-told layout _ _ (s .args .t2) (s .pre) (l .before .loop .j) (line .line-of .ensures) below in
     (omega arith, below-more _ _ (l .before .loop .inv .1) (passes (c .before .in-range .ensures ∙ told) (c .if1 .left)))
@@ -67,7 +67,7 @@ unfolding layoutRange
 returns-2 c =
     let l = c .before in
     let s = l .before .before .before in
-    let layout = layoutBy (s .args .two) (s .args .judged) in
+    let layout = layoutBy (s .args .form) (s .args .judged) in
     refused-none _ RANGE (length layout) _ (l .loop .inv .1) (omega (arith, c .loop-test .left, l .before .lines-of .ensures))
 
 pub odd-line-spec : {M : Type 1} → statement M

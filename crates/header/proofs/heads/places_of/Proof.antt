@@ -16,25 +16,25 @@ abbrev room : ℕ
 room = 13
 
 abbrev Inv-loop : tie.InvT-loop
-Inv-loop s two judged hours lines at₀ i₀ j₀ at i j = PlacedTo (layoutBy two judged) hours s room at i j
+Inv-loop s form judged hours lines at₀ i₀ j₀ at i j = PlacedTo (layoutBy form judged) hours s room at i j
 
 abbrev μ-loop : tie.MeasureT-loop
-μ-loop s two judged hours lines at₀ i₀ j₀ at i j = length (layoutBy two judged) - j
+μ-loop s form judged hours lines at₀ i₀ j₀ at i j = length (layoutBy form judged) - j
 
 loop-holds : tie.Need-loop-holds Inv-loop μ-loop
-loop-holds c = let s = c .before .before in places-begin (layoutBy (s .args .two) (s .args .judged)) _ _ 12
+loop-holds c = let s = c .before .before in places-begin (layoutBy (s .args .form) (s .args .judged)) _ _ 12
 
 few : (c : tie.In-loop Inv-loop μ-loop) → c .before .loop .j < 12
 few c =
     let o = c .before .before in
     let s = o .before .before in
-    omega (arith, c .loop-test .taken, o .lines-of .ensures, lines-few (s .args .two) (s .args .judged))
+    omega (arith, c .loop-test .taken, o .lines-of .ensures, lines-few (s .args .form) (s .args .judged))
 
 line-at-requires : tie.Need-line-at-requires Inv-loop μ-loop
 line-at-requires c κs =
     let l = c .before .before in
     let s = l .before .before .before in
-    ap isKeyed (c .line-of .ensures) ∙ line-keyed (layoutBy (s .args .two) (s .args .judged)) (l .loop .j) (lines-keyed (s .args .two) (s .args .judged))
+    ap isKeyed (c .line-of .ensures) ∙ line-keyed (layoutBy (s .args .form) (s .args .judged)) (l .loop .j) (lines-keyed (s .args .form) (s .args .judged))
 
 returns : tie.Need-returns Inv-loop μ-loop
 returns c =
@@ -42,11 +42,11 @@ returns c =
     let l = read .before .before in
     let o = l .before .before in
     let s = o .before .before in
-    let two = s .args .two in
+    let form = s .args .form in
     let judged = s .args .judged in
     record {
       told =
-          line-broken (layoutBy two judged) _ _ room (lines-few two judged) _ _ _ (l .before .loop .inv) (read .before .line-of .ensures)
+          line-broken (layoutBy form judged) _ _ room (lines-few form judged) _ _ _ (l .before .loop .inv) (read .before .line-of .ensures)
           (omega (arith, l .loop-test .taken, o .lines-of .ensures)) (sym (read .line-at .ensures) ∙ c .enum-told .given .1);
       placed = λ z. absurd (omega arith);
     }
@@ -57,21 +57,21 @@ loop-again c =
     let l = read .before .before in
     let o = l .before .before in
     let s = o .before .before in
-    let two = s .args .two in
+    let form = s .args .form in
     let judged = s .args .judged in
-    places-next (layoutBy two judged) _ _ room (lines-few two judged) _ _ _ (l .before .loop .inv) (read .before .line-of .ensures)
+    places-next (layoutBy form judged) _ _ room (lines-few form judged) _ _ _ (l .before .loop .inv) (read .before .line-of .ensures)
     (omega (arith, l .loop-test .taken, o .lines-of .ensures)) _ (sym (read .line-at .ensures) ∙ c .before .next .given .1)
 
 returns-2 : tie.Need-returns-2 Inv-loop μ-loop
 returns-2 c =
     let l = c .before in
     let s = l .before .before .before in
-    let two = s .args .two in
+    let form = s .args .form in
     let judged = s .args .judged in
-    let all : length (layoutBy two judged) ≤ l .loop .j = omega (arith, c .loop-test .left, l .before .lines-of .ensures) in
+    let all : length (layoutBy form judged) ≤ l .loop .j = omega (arith, c .loop-test .left, l .before .lines-of .ensures) in
     record {
-      told = none-broken (layoutBy two judged) _ _ room (lines-few two judged) _ _ _ (l .loop .inv) all;
-      placed = λ z. all-placed (layoutBy two judged) _ _ room (lines-few two judged) _ _ _ (l .loop .inv) all;
+      told = none-broken (layoutBy form judged) _ _ room (lines-few form judged) _ _ _ (l .loop .inv) all;
+      placed = λ z. all-placed (layoutBy form judged) _ _ room (lines-few form judged) _ _ _ (l .loop .inv) all;
     }
 
 pub places-of-spec : {M : Type 1} → statement M

@@ -13,10 +13,10 @@ use Rattle.header.proofs.rows.word_at.Statement.{statement}
 use Rattle.header.proofs.rows.word_at.Tie as tie
 
 abbrev Inv-loop : tie.InvT-loop
-Inv-loop s at hours row₀ h₀ row h = (h ≤ hours) × (row ≡ word h (λ k. eqb (digitAt s (at + k)) 1))
+Inv-loop s at hours digit row₀ h₀ row h = (h ≤ hours) × (row ≡ word h (λ k. eqb (digitAt s (at + k)) digit))
 
 abbrev μ-loop : tie.MeasureT-loop
-μ-loop s at hours row₀ h₀ row h = hours - h
+μ-loop s at hours digit row₀ h₀ row h = hours - h
 
 loop-holds : tie.Need-loop-holds Inv-loop μ-loop
 loop-holds c = (omega arith, sym (word-none _))

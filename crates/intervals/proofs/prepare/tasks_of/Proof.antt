@@ -3,6 +3,7 @@ use mathlib.Core.Path.{_≡_, subst}
 use mathlib.Core.Bool.{false}
 use Prim.Native.Nat.{ℕ, _-_, _≤_}
 use native.Mathlib.Omega.{arith}
+use Rattle.tariff.specs.Hour.{partsOf}
 use Rattle.tariff.proofs.Ranges.{form-says}
 use Rattle.intervals.specs.Task.{asked, TasksOf}
 use Rattle.intervals.proofs.Fits.{in-range, tasks-begin, tasks-next, tasks-idle}
@@ -19,12 +20,13 @@ returns : tie.Need-returns Inv-loop μ-loop
 returns c = rw (c .if1 .taken) (tasks-idle _ (c .before .idle .ensures))
 
 loop-holds : tie.Need-loop-holds Inv-loop μ-loop
-loop-holds c = (omega arith, form-says _ (c .before .before .pre .0) .2, tasks-begin)
+loop-holds c = (omega arith, form-says (partsOf (c .before .before .args .t1)) (c .before .before .pre .0) .2, tasks-begin)
 
 task-of-requires : tie.Need-task-of-requires Inv-loop μ-loop
 task-of-requires c κs =
     let k = c .before .before in
-    in-range _ (k .before .before .before .before .pre) (k .loop-test .taken)
+    let s = k .before .before .before .before in
+    in-range (s .args .t1) (s .pre) (k .loop-test .taken)
 
 loop-again : tie.Need-loop-again Inv-loop μ-loop
 loop-again c =

@@ -8,7 +8,7 @@ use borrow.Author.Needs.{needs}
 use lib.IntN.{ℤ, pos}
 use Rattle.exact.proofs.Calls.{passes, fails}
 use Rattle.tariff.specs.declared.Curve.{Curve}
-use Rattle.intervals.specs.declared.steps.Task.{Task}
+use Rattle.tasks.specs.declared.Task.{Task}
 use Rattle.intervals.specs.declared.steps.Run.{Run}
 use Rattle.intervals.proofs.Scans.{Scanning, Priced, scan-begins, scan-short, turn-within, scan-goes-on, scan-reaches, cost-nothing}
 use Rattle.intervals.specs.Task.{taskAt, outcomesOf}

@@ -7,18 +7,18 @@ use lib.ListN.{drop}
 use Rattle.tariff.specs.Sheet.{LONGEST-DAY}
 use Rattle.tariff.specs.Reply.{told}
 use Rattle.ledger.specs.Day.{Front, dayReply}
-use Rattle.ledger.specs.Walk.{wordFront}
+use Rattle.ledger.specs.Walk.{answerOf, wordFront}
 use Rattle.ledger.proofs.Totals.{most-more}
 use Rattle.lines.proofs.Pieces.{piece-behind}
-use Rattle.ledger.proofs.Walks.{Gone, gone-none, hour-rounded, block-reply, gone-more, more-follows, none-follows}
+use Rattle.ledger.proofs.Walks.{Gone, gone-none, all-rounded, hour-rounded, block-reply, gone-more, more-follows, none-follows}
 use Rattle.ledger.proofs.hours.settle_hours.Statement.{statement}
 use Rattle.ledger.proofs.hours.settle_hours.Tie as tie
 
 abbrev Inv-loop : tie.InvT-loop
-Inv-loop s at excluded hours answers₀ total₀ i₀ k₀ answers total i k = (k ≤ hours) × Gone s (wordFront excluded (drop at s) hours) answers total i k
+Inv-loop s at kind excluded hours answers₀ total₀ i₀ k₀ answers total i k = (k ≤ hours) × Gone s (wordFront (answerOf kind) excluded (drop at s) hours) answers total i k
 
 abbrev μ-loop : tie.MeasureT-loop
-μ-loop s at excluded hours answers₀ total₀ i₀ k₀ answers total i k = hours - k
+μ-loop s at kind excluded hours answers₀ total₀ i₀ k₀ answers total i k = hours - k
 
 -- the block that the loop settles is block k
 module _ (c : tie.After-settle-hour Inv-loop μ-loop) where
@@ -29,7 +29,7 @@ module _ (c : tie.After-settle-hour Inv-loop μ-loop) where
   turn = c .before .before .before
 
   abbrev day : Front
-  day = let a = start .args in wordFront (a .excluded) (drop (a .at) (a .s .now)) (a .hours)
+  day = let a = start .args in wordFront (answerOf (a .kind)) (a .excluded) (drop (a .at) (a .s .now)) (a .hours)
 
   reply-is : told (c .settle-hour .result) ≡ dayReply day (turn .loop .k)
   reply-is =
@@ -41,7 +41,7 @@ loop-holds : tie.Need-loop-holds Inv-loop μ-loop
 loop-holds c = let a = c .before .args in (omega arith, gone-none (a .s .now) _ _ (a .at) refl (c .before .pre .0) refl)
 
 add-requires : tie.Need-add-requires Inv-loop μ-loop
-add-requires c κs = (most-more (omega arith) (turn c .loop .inv .1 .most), hour-rounded (day c) _ (c .settle-hour .result) (reply-is c))
+add-requires c κs = (most-more (omega arith) (turn c .loop .inv .1 .most), hour-rounded (day c) (all-rounded (start c .args .kind)) _ (c .settle-hour .result) (reply-is c))
 
 loop-again : tie.Need-loop-again Inv-loop μ-loop
 loop-again c =

@@ -1,0 +1,2 @@
+-- The answer to a block of an internal controllable line.
+pub mod IclSettle

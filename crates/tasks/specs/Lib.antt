@@ -1,0 +1,2 @@
+-- What an interval asks of the walk.
+pub mod Task
