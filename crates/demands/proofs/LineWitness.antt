@@ -47,7 +47,7 @@ use Rattle.printed.specs.Printed.{dayPage, lineText}
 use Rattle.demands.specs.Small.{curves, plain, other, longer, plainRead, otherRead, longerRead}
 use Rattle.demands.specs.LineSmall.{lineFirst, lineRest, lineBlock, lineHour, lineHeader, lineDay}
 use Rattle.demands.proofs.Opened.{cutting}
-use Rattle.demands.proofs.Printed.{curve-added-to-a-line-day}
+use Rattle.demands.proofs.Printed.{lent, curve-added-to-a-line-day}
 use Rattle.demands.proofs.Witness.{only-2, extended, unchanged}
 use Rattle.demands.proofs.LineDemands.{
   behind-the-last-block-of-a-line-no-byte-matters,
@@ -198,19 +198,16 @@ this-line-block-is-paid = record {
   pays = ap (λ (b : IclBlock). iclReplyTo b false Any 30) (plain-stands .reads) ∙ plain-paid Any refl any-hour;
 }
 
-abbrev row : List ℤ
-row = replicate 30 (pos 0)
-
 pub these-line-blocks-are-answered-alike :
     iclReplyTo (iclBlockOf (lineBlock plain)) false Any 30 ≡ iclReplyTo (iclBlockOf (lineBlock other)) false Any 30
 these-line-blocks-are-answered-alike =
-    only-those-prices-of-a-line-matter (lineBlock plain) (lineBlock other) (lineHour plainRead) (lineHour otherRead) false Any row
+    only-those-prices-of-a-line-matter (lineBlock plain) (lineBlock other) (lineHour plainRead) (lineHour otherRead) false Any lent
     (lines-apart other-stands) (plain-stands .reads) (other-stands .reads) (plain-clear Any refl any-hour) (other-clear Any refl any-hour) agree .0
 
 pub curve-is-added-to-this-line-block : iclReplyTo (iclBlockOf (lineBlock longer)) false Any 30 ≡ paid (pos 10800000) (pos 3)
 unfolding this-line-block-is-paid
 curve-is-added-to-this-line-block =
-    adding-curve-to-a-line-never-moves-a-cent (lineBlock plain) (lineBlock longer) (lineHour plainRead) (lineHour longerRead) false Any row
+    adding-curve-to-a-line-never-moves-a-cent (lineBlock plain) (lineBlock longer) (lineHour plainRead) (lineHour longerRead) false Any lent
     (lines-apart longer-stands) (plain-stands .reads) (longer-stands .reads) _ _ (longer-clear Any refl any-hour) extended (unchanged emptyCurve)
     (this-line-block-is-paid .pays) .0
 

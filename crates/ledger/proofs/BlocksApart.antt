@@ -3,27 +3,20 @@ use mathlib.Core.Path.{_≡_}
 use mathlib.Core.Bool.{Bool}
 use mathlib.Core.List.{List}
 use Prim.Native.Nat.{ℕ}
-use lib.IntN.{ℤ, pos}
-use lib.ListN.{replicate}
+use lib.IntN.{ℤ}
 use Rattle.tariff.specs.declared.Hour.{Hour}
 use Rattle.tariff.specs.declared.Expected.{Expected}
-use Rattle.tariff.specs.Reply.{Reply, paid}
+use Rattle.tariff.specs.Reply.{paid}
+use Rattle.tariff.specs.Hour.{reply}
 use Rattle.tariff.specs.Total.{Pays}
 use Rattle.tariff.specs.Demand.{Lawful, Extends}
 use Rattle.curves.proofs.FrameApart.{turned}
 use Rattle.sheet.specs.Apart.{CurvesApart}
-use Rattle.blocks.specs.Block.{Block, read, blockOf}
+use Rattle.blocks.specs.Block.{read, blockOf}
 use Rattle.sheet.specs.Settle.{replyTo}
 use Rattle.sheet.proofs.BlockDemands.{curves-apart-break-alike, only-needed-prices-of-blocks-matter, adding-curve-to-a-block-changes-nothing}
 use Rattle.ledger.specs.Demand.{BlocksApart, PricedAlike, one, priced}
-use Rattle.ledger.proofs.ByReading.{by-reading, curve-added, added-alike}
-
--- a lent row of 30 entries
-abbrev row : List ℤ
-row = replicate 30 (pos 0)
-
-abbrev answered : Block → Bool → Expected → Reply
-answered b isExcluded expected = replyTo b isExcluded expected 30
+use Rattle.ledger.proofs.ByReading.{row, by-reading, curve-added, added-alike}
 
 module _ (s t : List ℕ) (isExcluded : Bool) (expected : Expected) where
   abbrev Same : Type 0
@@ -36,7 +29,7 @@ module _ (s t : List ℕ) (isExcluded : Bool) (expected : Expected) where
   pub blocks-alike : BlocksApart s t
       → ((h g : Hour) → blockOf s ≡ read h → blockOf t ≡ read g → PricedAlike h g isExcluded expected) → Same
   blocks-alike b alike =
-      by-reading blockOf answered CurvesApart turned curves-apart-break-alike s t isExcluded expected b (λ o h g x y. go o h g x y (alike h g x y))
+      by-reading blockOf reply CurvesApart turned curves-apart-break-alike s t isExcluded expected b (λ o h g x y. go o h g x y (alike h g x y))
     where
       go : CurvesApart s t → (h g : Hour) → blockOf s ≡ read h → blockOf t ≡ read g → PricedAlike h g isExcluded expected → Same
       go o h g x y (one e) = rw (x, y, e)
@@ -48,9 +41,9 @@ module _ (s t : List ℕ) (isExcluded : Bool) (expected : Expected) where
 
   pub blocks-extended : BlocksApart s t → (h g : Hour) → blockOf s ≡ read h → blockOf t ≡ read g → (sum cents : ℤ) → Longer h g
       → replyTo (blockOf s) isExcluded expected 30 ≡ paid sum cents → replyTo (blockOf t) isExcluded expected 30 ≡ paid sum cents
-  blocks-extended = curve-added blockOf answered CurvesApart turned curves-apart-break-alike s t isExcluded expected Longer adding
+  blocks-extended = curve-added blockOf reply CurvesApart turned curves-apart-break-alike s t isExcluded expected Longer adding
 
   pub blocks-added : BlocksApart s t → Pays (replyTo (blockOf s) isExcluded expected 30)
       → ((h g : Hour) → blockOf s ≡ read h → blockOf t ≡ read g → Longer h g)
       → Same
-  blocks-added = added-alike blockOf answered CurvesApart turned curves-apart-break-alike s t isExcluded expected Longer adding
+  blocks-added = added-alike blockOf reply CurvesApart turned curves-apart-break-alike s t isExcluded expected Longer adding

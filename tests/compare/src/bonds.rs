@@ -1,5 +1,7 @@
 //! Pairs of texts, and how the answer to one follows from that to the other.
 
+use crate::random::Rng;
+
 /// How the second answer follows from the first.
 #[derive(Clone, Debug, PartialEq, Eq)]
 pub enum Bond {
@@ -27,6 +29,30 @@ pub struct Pair {
     pub after: Vec<u8>,
     /// How the answers are bound.
     pub bond: Bond,
+}
+
+impl Pair {
+    /// These two in this order; or, since sameness goes both ways, in the other.
+    pub fn either_way(
+        rng: &mut Rng,
+        name: &'static str,
+        before: Vec<u8>,
+        after: Vec<u8>,
+        bond: Bond,
+    ) -> Self {
+        let back = bond == Bond::Same && rng.once_in(2);
+        let (before, after) = if back {
+            (after, before)
+        } else {
+            (before, after)
+        };
+        Pair {
+            name,
+            before,
+            after,
+            bond,
+        }
+    }
 }
 
 impl Bond {

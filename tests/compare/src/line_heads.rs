@@ -170,7 +170,7 @@ pub fn long_rows(rng: &mut Rng, turn: usize) -> Vec<u8> {
 #[cfg(test)]
 mod tests {
     use super::*;
-    use crate::rows::ENDS;
+    use crate::rows::assert_reach_ends;
     use second::line_text;
     use std::collections::BTreeSet;
 
@@ -228,11 +228,6 @@ mod tests {
 
     #[test]
     fn long_rows_go_over_the_ends_of_reads() {
-        for turn in 0..2 * ENDS.len() {
-            let text = long_rows(&mut Rng::new(3, turn as u64), turn);
-            let longest = text.split(|byte| *byte == b'\n').map(<[u8]>::len).max();
-            let end = ENDS[turn % ENDS.len()];
-            assert!(longest.is_some_and(|length| length + 60 > end), "{turn}");
-        }
+        assert_reach_ends(long_rows, 60);
     }
 }

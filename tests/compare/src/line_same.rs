@@ -69,19 +69,7 @@ fn changed_hour(rng: &mut Rng, turn: usize) -> Pair {
     let before = sheet(&head, &hours);
     hours[place] = change.after;
     let after = sheet(&head, &hours);
-    // Sameness goes both ways.
-    let back = bond == Bond::Same && rng.once_in(2);
-    let (before, after) = if back {
-        (after, before)
-    } else {
-        (before, after)
-    };
-    Pair {
-        name: change.name,
-        before,
-        after,
-        bond,
-    }
+    Pair::either_way(rng, change.name, before, after, bond)
 }
 
 /// What is printed of hours that pay by their number, but for a refused one.

@@ -90,3 +90,15 @@ pub fn long(rng: &mut Rng, turn: usize, mut sheet: Sheet, rows: &Rows) -> Vec<u8
     damage(rng, &mut sheet, row, rows, turn % 7);
     sheet.text()
 }
+
+/// Each of these ends has its turns, and the longest line made in them lacks less
+/// than `short` bytes of it.
+#[cfg(test)]
+pub fn assert_reach_ends(make: fn(&mut Rng, usize) -> Vec<u8>, short: usize) {
+    for turn in 0..2 * ENDS.len() {
+        let text = make(&mut Rng::new(3, turn as u64), turn);
+        let longest = text.split(|byte| *byte == b'\n').map(<[u8]>::len).max();
+        let end = ENDS[turn % ENDS.len()];
+        assert!(longest.is_some_and(|length| length + short > end), "{turn}");
+    }
+}

@@ -77,19 +77,7 @@ pub fn of_hours(rng: &mut Rng, turn: usize) -> Pair {
     let (record, change) = changed(rng, turn, CHANGES, false);
     let before = record.to_text().into_bytes();
     let after = change.after.to_text().into_bytes();
-    // Sameness goes both ways.
-    let back = change.bond == Bond::Same && rng.once_in(2);
-    let (before, after) = if back {
-        (after, before)
-    } else {
-        (before, after)
-    };
-    Pair {
-        name: change.name,
-        before,
-        after,
-        bond: change.bond,
-    }
+    Pair::either_way(rng, change.name, before, after, change.bond)
 }
 
 /// Bytes behind the block's empty line change nothing.
