@@ -3,21 +3,41 @@ use mathlib.Core.Path.{_≡_, refl, _∙_, ap}
 use mathlib.Core.List.{List, [], _∷_}
 use Prim.Native.Nat.{ℕ, zero, suc, _+_, _-_, _<_, _≤_}
 use native.Mathlib.Omega.{arith}
-use lib.Dec.{ltb}
+use lib.Dec.{ltb, eqb}
 use lib.IntN.{ℤ, pos}
-use lib.ListN.{set}
+use lib.ListN.{length, getD, set}
 use Rattle.exact.specs.Choice.{if_then_else_}
 use Rattle.exact.specs.Whole.{Within}
-use Rattle.tariff.specs.Derate.{ofFive, floorOf, remainder, leftOver, one, rank, share}
+use Rattle.tariff.specs.Derate.{ofFive, floorOf, remainder, share}
 use Rattle.tariff.proofs.Ranks.{five, at-five}
 use Rattle.tariff.proofs.Shares.{floor-bound, floors-left, share-bound}
 use Rattle.derate.specs.declared.cuts.Cut.{Cut}
 use Rattle.derate.specs.Five.{kwFive, cutFive, kwAt, cutAt, Close, SmallFive, floorBy, remainderBy}
 
--- ---- an array filled, and a sum taken, up to place j
+-- ---- what stands at each of five places
 
-abbrev fiveOf : {A : Type 0} → (ℕ → A) → List A
+abbrev pub fiveOf : {A : Type 0} → (ℕ → A) → List A
 fiveOf f = f 0 ∷ f 1 ∷ f 2 ∷ f 3 ∷ f 4 ∷ []
+
+pub fives-same : {A : Type 0} (f g : ℕ → A) → ((k : ℕ) → k < 5 → f k ≡ g k) → fiveOf f ≡ fiveOf g
+fives-same f g h = let e = five (λ k. f k ≡ g k) h in λ i. e .0 i ∷ e .1 i ∷ e .2 i ∷ e .3 i ∷ e .4 i ∷ []
+
+pub five-set : {A : Type 0} (f : ℕ → A) (r : A) (j : ℕ) → j < 5 → set (fiveOf f) j r ≡ fiveOf (λ k. if eqb k j then r else f k)
+five-set f r = at-five (λ j. set (fiveOf f) j r ≡ fiveOf (λ k. if eqb k j then r else f k)) (refl, refl, refl, refl, refl)
+
+pub five-at : {A : Type 0} (f : ℕ → A) (nothing : A) (j : ℕ) → j < 5 → getD (fiveOf f) j nothing ≡ f j
+five-at f nothing = at-five (λ j. getD (fiveOf f) j nothing ≡ f j) (refl, refl, refl, refl, refl)
+
+pub five-long : {A : Type 0} (nothing : A) (l : List A) → length l ≡ 5 → l ≡ fiveOf (λ k. getD l k nothing)
+five-long nothing (a ∷ b ∷ c ∷ d ∷ e ∷ []) h = refl
+five-long nothing [] h = absurd (omega arith)
+five-long nothing (a ∷ []) h = absurd (omega arith)
+five-long nothing (a ∷ b ∷ []) h = absurd (omega arith)
+five-long nothing (a ∷ b ∷ c ∷ []) h = absurd (omega arith)
+five-long nothing (a ∷ b ∷ c ∷ d ∷ []) h = absurd (omega arith)
+five-long nothing (a ∷ b ∷ c ∷ d ∷ e ∷ f ∷ l) h = absurd (omega arith)
+
+-- ---- an array filled, and a sum taken, up to place j
 
 -- f at the places before j, and nothing from j on
 abbrev till : {A : Type 0} → A → (ℕ → A) → ℕ → ℕ → A
@@ -62,7 +82,7 @@ module _ {f : ℕ → ℕ} {sum j : ℕ} (o : Summed f sum j) where
   pub summed-all : 5 ≤ j → sum ≡ ofFive f
   summed-all u = let end : j ≡ 5 = let v = o .few in omega arith in o .same ∙ ap (λ j. ofFive (till 0 f j)) end
 
--- ---- what stands at each place, where nothing stands past the fifth
+-- ---- what stands at any place, where nothing stands past the fifth
 
 by-place : {A : Type 0} (f g : ℕ → A) → f 0 ≡ g 0 → f 1 ≡ g 1 → f 2 ≡ g 2 → f 3 ≡ g 3 → f 4 ≡ g 4 → ((k : ℕ) → f (suc (suc (suc (suc (suc k))))) ≡ g (suc (suc (suc (suc (suc k)))))) → f ≡ g
 by-place f g p q r s t h = λ i j. at j i
@@ -118,14 +138,3 @@ module _ (pot : List Cut) (red : ℕ) (small : SmallFive pot) (fits : red ≤ of
 
   pub low-within : (sum : ℕ) → sum ≡ ofFive (cutAt low) → sum ≤ red
   low-within sum h = omega (arith, low-sum, floors-left (cutAt pot) red fits)
-
--- the floors, and one more for each of the first, as many as are left over
-pub shares-are : (pot : ℕ → ℕ) (red : ℕ) {low rem l : List Cut} {sum left : ℕ}
-    → low ≡ cutFive (floorOf pot red)
-    → rem ≡ cutFive (remainder pot red)
-    → sum ≡ ofFive (cutAt low)
-    → left ≡ red - sum
-    → l ≡ cutFive (λ j. cutAt low j + one (ltb (rank (cutAt rem) j) left))
-    → l ≡ cutFive (share pot red)
-unfolding share leftOver
-shares-are pot red e f g h q = rw (q, h, g, e, f)

@@ -1,8 +1,7 @@
 -- The figures of a day sheet are in range, and the answer is then document 01's derate: it exceeds the room, or the schedules are reduced.
 use mathlib.Core.Path.{_≡_, refl}
-use mathlib.Core.Bool.{Bool, true, false}
-use Prim.Native.Nat.{ℕ, zero, suc, _<_}
-use native.Mathlib.Omega.{arith}
+use mathlib.Core.Bool.{true, false}
+use Prim.Native.Nat.{ℕ, _<_}
 use lib.IntN.{ℤ, pos, negℤ}
 use lib.Signed.{leZ}
 use Rattle.exact.specs.Whole.{Within}
@@ -12,20 +11,16 @@ use Rattle.tariff.specs.declared.Uol.{Uol}
 use Rattle.tariff.specs.declared.Uol.the-variants.{Missing, At}
 use Rattle.tariff.specs.declared.DayAhead.{DayAhead}
 use Rattle.tariff.specs.declared.Interval.{Interval}
-use Rattle.tariff.specs.Sheet.{isPower, allTo, aheadInRange, uolInRange, intervalInRange}
+use Rattle.tariff.specs.Sheet.{isPower, aheadInRange, uolInRange, intervalInRange}
 use Rattle.tariff.specs.Derate.{dayAhead, realTime, exceedsRoom, reduced}
 use Rattle.tariff.proofs.Ranges.{capacity-within, uol-fits}
 use Rattle.tariff.proofs.Reduced.{ahead-within, live-within}
+use Rattle.tariff.proofs.Tests.{all-of}
 use Rattle.derate.specs.Five.{kwFive}
 use Rattle.derate.specs.Derated.{arePowers, deratableUnder, deratable, derateOf}
 
 is-power : {z : ℤ} → Within 2000000 z → isPower z ≡ true
 is-power {z} w = and-both (leZ (negℤ (pos 2000000)) z) (leZ z (pos 2000000)) (omega arithℤ) (omega arithℤ)
-
-all-of : (f : ℕ → Bool) (n : ℕ) → ((k : ℕ) → k < n → f k ≡ true) → allTo f n ≡ true
-unfolding allTo
-all-of f zero h = refl
-all-of f (suc n) h = and-both (allTo f n) (f n) (all-of f n (λ k u. h k (omega arith))) (h n (omega arith))
 
 are-powers : (f : ℕ → ℤ) → ((j : ℕ) → j < 5 → Within 2000000 (f j)) → arePowers f ≡ true
 are-powers f h = all-of (λ j. isPower (f j)) 5 (λ j u. is-power (h j u))

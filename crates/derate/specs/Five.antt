@@ -1,8 +1,8 @@
 -- Arrays of five: schedules, and the kilowatts of a reduction.
-use mathlib.Core.Bool.{Bool, _&&_, _||_}
+use mathlib.Core.Bool.{Bool, false}
 use mathlib.Core.List.{List, [], _∷_}
 use Prim.Native.Nat.{ℕ, _*_, _/_, _%_, _<_, _≤_}
-use lib.Dec.{ltb, eqb}
+use lib.Dec.{eqb}
 use lib.ListN.{getD}
 use lib.IntN.{ℤ, pos}
 use Rattle.exact.specs.Choice.{if_then_else_}
@@ -26,6 +26,9 @@ kwAt l j = getD l j (kw (pos 0)) .0
 abbrev pub cutAt : List Cut → ℕ → ℕ
 cutAt l j = getD l j (cut 0) .0
 
+abbrev pub servedAt : List Bool → ℕ → Bool
+servedAt l j = getD l j false
+
 -- each of five schedules is in the range of power
 pub record Close (l : List Kw) : Type 0 where
   pub close : (j : ℕ) → j < 5 → Within 2000000 (kwAt l j)
@@ -40,7 +43,3 @@ floorBy room pot red = if eqb room 0 then 0 else pot * red / room
 
 abbrev pub remainderBy : (room pot red : ℕ) → ℕ
 remainderBy room pot red = if eqb room 0 then 0 else pot * red % room
-
--- a schedule at place i with remainder x comes before one at place j with remainder y
-abbrev pub beforeBy : (x i y j : ℕ) → Bool
-beforeBy x i y j = ltb y x || (eqb x y && ltb i j)

@@ -1,11 +1,9 @@
 // Kilowatts of a reduction, one operation to a function.
 ghost use mathlib.Core.Path.{_≡_};
 ghost use Prim.Native.Nat.{_+_, _-_, _≤_};
-ghost use lib.Dec.{ltb};
 ghost use lib.IntN.{pos, _+ℤ_, _-ℤ_};
 ghost use Rattle.exact.specs.Whole.{over, Within};
-ghost use Rattle.tariff.specs.Derate.{one};
-ghost use Rattle.derate.specs.Five.{floorBy, remainderBy, beforeBy};
+ghost use Rattle.derate.specs.Five.{floorBy, remainderBy};
 use tariff::Kw;
 
 // Kilowatts of a reduction, or what its sharing leaves over in parts of the room: never negative.
@@ -69,24 +67,10 @@ pub fn remainder_of(p: Cut, red: Cut, room: Cut) -> Cut
     }
 }
 
-// 1 where the schedule at place i, with remainder x, comes before the one at place j, with remainder y.
-pub fn comes_before(x: Cut, i: usize, y: Cut, j: usize) -> u64
-    ensures is { λ r. ⌜ r ≡ one (beforeBy (x .0) i (y .0) j) ⌝ }
-    ensures most { λ r. ⌜ r ≤ 1 ⌝ }
+// A share with a left-over kilowatt.
+pub fn one_more(c: Cut) -> Cut
+    requires { ⌜ c .0 ≤ 4000000 ⌝ }
+    ensures { λ r. ⌜ r .0 ≡ c .0 + 1 ⌝ }
 {
-    if x.0 == y.0 {
-        if i < j { 1 } else { 0 }
-    } else if y.0 < x.0 {
-        1
-    } else {
-        0
-    }
-}
-
-// A left-over kilowatt goes to each of the first `left` schedules.
-pub fn share_of(low: Cut, rank: u64, left: Cut) -> Cut
-    requires { ⌜ low .0 ≤ 4000000 ⌝ }
-    ensures { λ r. ⌜ r .0 ≡ low .0 + one (ltb rank (left .0)) ⌝ }
-{
-    if rank < left.0 { Cut(low.0 + 1) } else { low }
+    Cut(c.0 + 1)
 }

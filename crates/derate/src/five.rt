@@ -1,11 +1,12 @@
 // Five schedules in the order energy, regulation, r1, r2, r3, and their sharing: each step takes and gives arrays by value.
 ghost use mathlib.Core.Path.{_≡_};
+ghost use mathlib.Core.Bool.{true};
 ghost use Prim.Native.Nat.{_+_, _<_, _≤_};
-ghost use lib.Dec.{ltb};
 ghost use lib.IntN.{pos, _-ℤ_};
 ghost use Rattle.exact.specs.Whole.{over, sumTo};
-ghost use Rattle.tariff.specs.Derate.{ofFive, floorOf, remainder, one, rank, share};
-ghost use Rattle.derate.specs.Five.{kwFive, cutFive, kwAt, cutAt, Close, SmallFive};
+ghost use Rattle.tariff.specs.Derate.{ofFive, floorOf, remainder, one, share};
+ghost use Rattle.tariff.specs.Rounds.{isLargest, servedIn};
+ghost use Rattle.derate.specs.Five.{kwFive, cutFive, kwAt, cutAt, servedAt, Close, SmallFive};
 ghost use Rattle.derate.specs.Derated.{arePowers};
 use crate::cuts;
 use crate::cuts::Cut;
@@ -27,33 +28,35 @@ pub fn are_powers(d: [Kw; 5]) -> bool
 }
 
 // The sum of the five day-ahead schedules.
-pub fn sum_five(d: [Kw; 5]) -> Kw
-    requires { ⌜ Close d ⌝ }
-    ensures { λ r. ⌜ r .0 ≡ sumTo (kwAt d) 5 ⌝ }
+pub fn sum_five(das: [Kw; 5]) -> Kw
+    requires { ⌜ Close das ⌝ }
+    ensures { λ r. ⌜ r .0 ≡ sumTo (kwAt das) 5 ⌝ }
 {
     let mut sum = Kw(0);
     let mut j: usize = 0;
     while j < 5 {
-        let k = d[j];
+        let k = das[j];
         sum = cuts::kw_sum(sum, k);
         j += 1;
     }
     sum
 }
 
-pub fn potentials(d: [Kw; 5], live: [Kw; 5]) -> [Cut; 5]
-    requires { ⌜ Close d × Close live ⌝ }
-    ensures { λ r. ⌜ r ≡ cutFive (λ j. over (kwAt d j -ℤ kwAt live j)) ⌝ }
+// POTRED of each schedule: how far day ahead lies above real time, or nothing.
+pub fn potentials(das: [Kw; 5], rts: [Kw; 5]) -> [Cut; 5]
+    requires { ⌜ Close das × Close rts ⌝ }
+    ensures { λ r. ⌜ r ≡ cutFive (λ j. over (kwAt das j -ℤ kwAt rts j)) ⌝ }
 {
-    let mut pot = [Cut(0); 5];
+    let mut potred = [Cut(0); 5];
     let mut j: usize = 0;
     while j < 5 {
-        pot[j] = cuts::cut_from(d[j], live[j]);
+        potred[j] = cuts::cut_from(das[j], rts[j]);
         j += 1;
     }
-    pot
+    potred
 }
 
+// The sum of five cuts. That of the potentials is the room, 25.5's denominator.
 pub fn total(c: [Cut; 5]) -> Cut
     requires { ⌜ SmallFive c ⌝ }
     ensures { λ r. ⌜ r .0 ≡ ofFive (cutAt c) ⌝ }
@@ -68,81 +71,94 @@ pub fn total(c: [Cut; 5]) -> Cut
     Cut(sum)
 }
 
-pub fn floors(pot: [Cut; 5], red: Cut, room: Cut) -> [Cut; 5]
-    requires { ⌜ SmallFive pot × (red .0 ≤ 24000000) × (room .0 ≡ ofFive (cutAt pot)) ⌝ }
-    ensures { λ r. ⌜ r ≡ cutFive (floorOf (cutAt pot) (red .0)) ⌝ }
+// POTRED × REDtot / room for each schedule, rounded down, or 0 if the room is 0.
+pub fn floors(potred: [Cut; 5], redtot: Cut, room: Cut) -> [Cut; 5]
+    requires { ⌜ SmallFive potred × (redtot .0 ≤ 24000000) × (room .0 ≡ ofFive (cutAt potred)) ⌝ }
+    ensures { λ r. ⌜ r ≡ cutFive (floorOf (cutAt potred) (redtot .0)) ⌝ }
 {
-    let mut low = [Cut(0); 5];
+    let mut rounded = [Cut(0); 5];
     let mut j: usize = 0;
     while j < 5 {
-        low[j] = cuts::floor_of(pot[j], red, room);
+        rounded[j] = cuts::floor_of(potred[j], redtot, room);
         j += 1;
     }
-    low
+    rounded
 }
 
-pub fn remainders(pot: [Cut; 5], red: Cut, room: Cut) -> [Cut; 5]
-    requires { ⌜ SmallFive pot × (red .0 ≤ 24000000) × (room .0 ≡ ofFive (cutAt pot)) ⌝ }
-    ensures { λ r. ⌜ r ≡ cutFive (remainder (cutAt pot) (red .0)) ⌝ }
+// The fraction of a kilowatt that each loses by the rounding, times the room: 7000 in a room of 10000 is 0.7 kW.
+pub fn remainders(potred: [Cut; 5], redtot: Cut, room: Cut) -> [Cut; 5]
+    requires { ⌜ SmallFive potred × (redtot .0 ≤ 24000000) × (room .0 ≡ ofFive (cutAt potred)) ⌝ }
+    ensures { λ r. ⌜ r ≡ cutFive (remainder (cutAt potred) (redtot .0)) ⌝ }
 {
     let mut rem = [Cut(0); 5];
     let mut j: usize = 0;
     while j < 5 {
-        rem[j] = cuts::remainder_of(pot[j], red, room);
+        rem[j] = cuts::remainder_of(potred[j], redtot, room);
         j += 1;
     }
     rem
 }
 
-// How many schedules come before the one at place j.
-pub fn rank_of(rem: [Cut; 5], j: usize) -> u64
-    requires { ⌜ j < 5 ⌝ }
-    ensures { λ r. ⌜ r ≡ rank (cutAt rem) j ⌝ }
+// Which schedule has the largest remainder not yet served; of equal ones the first, in the order energy, regulation, r1, r2, r3.
+pub fn largest(rem: [Cut; 5], served: [bool; 5]) -> usize
+    requires { ⌜ ofFive (λ j. one (servedAt served j)) < 5 ⌝ }
+    ensures { λ r. ⌜ (r < 5) × (isLargest (cutAt rem) (servedAt served) r ≡ true) ⌝ }
 {
-    let y = rem[j];
-    let mut n: u64 = 0;
-    let mut i: usize = 0;
-    while i < 5 {
-        n += cuts::comes_before(rem[i], i, y, j);
-        i += 1;
-    }
-    n
-}
-
-// The floors, and the kilowatts that they leave over one each to the largest remainders.
-pub fn hand_out(low: [Cut; 5], rem: [Cut; 5], left: Cut) -> [Cut; 5]
-    requires { ⌜ SmallFive low ⌝ }
-    ensures { λ r. ⌜ r ≡ cutFive (λ j. cutAt low j + one (ltb (rank (cutAt rem) j) (left .0))) ⌝ }
-{
-    let mut shares = [Cut(0); 5];
-    let mut j: usize = 0;
+    // The search begins at energy. Where that is served, the first schedule that is not replaces it.
+    let mut found: usize = 0;
+    let mut j: usize = 1;
     while j < 5 {
-        shares[j] = cuts::share_of(low[j], rank_of(rem, j), left);
+        // One that is equal and stands later replaces nothing.
+        let larger = rem[j].0 > rem[found].0;
+        if !served[j] & (served[found] | larger) {
+            found = j;
+        }
         j += 1;
     }
-    shares
+    found
 }
 
-pub fn shares(pot: [Cut; 5], red: Cut) -> [Cut; 5]
-    requires { ⌜ SmallFive pot × (red .0 ≤ ofFive (cutAt pot)) ⌝ }
-    ensures { λ r. ⌜ r ≡ cutFive (share (cutAt pot) (red .0)) ⌝ }
+// Hands the left-over kilowatts out in as many rounds: each adds one to the cut with the largest remainder not yet served. Five fractions of
+// a kilowatt come to less than 5, so there are four rounds at most.
+pub fn hand_out(rounded: [Cut; 5], rem: [Cut; 5], left: Cut) -> [Cut; 5]
+    requires { ⌜ SmallFive rounded × (left .0 ≤ 4) ⌝ }
+    ensures { λ r. ⌜ r ≡ cutFive (λ j. cutAt rounded j + one (servedIn (cutAt rem) (left .0) j)) ⌝ }
 {
-    let room = total(pot);
-    let low = floors(pot, red, room);
-    let rem = remainders(pot, red, room);
-    let left = cuts::cut_minus(red, total(low));
-    hand_out(low, rem, left)
+    let mut red = rounded;
+    let mut served = [false; 5];
+    let mut rounds: u64 = 0;
+    while rounds < left.0 {
+        let next = largest(rem, served);
+        red[next] = cuts::one_more(red[next]);
+        served[next] = true;
+        rounds += 1;
+    }
+    red
 }
 
-pub fn reduce(d: [Kw; 5], c: [Cut; 5]) -> [Kw; 5]
-    requires { ⌜ Close d × SmallFive c ⌝ }
-    ensures { λ r. ⌜ r ≡ kwFive (λ j. kwAt d j -ℤ pos (cutAt c j)) ⌝ }
+// REDen, REDreg and the three REDres by 25.5's formula, each rounded down; the kilowatts that this leaves of REDtot are handed out in rounds. 25.5
+// has no rounding: both are rules of the house.
+pub fn shares(potred: [Cut; 5], redtot: Cut) -> [Cut; 5]
+    requires { ⌜ SmallFive potred × (redtot .0 ≤ ofFive (cutAt potred)) ⌝ }
+    ensures { λ r. ⌜ r ≡ cutFive (share (cutAt potred) (redtot .0)) ⌝ }
 {
-    let mut q = [Kw(0); 5];
+    let room = total(potred);
+    let rounded = floors(potred, redtot, room);
+    let rem = remainders(potred, redtot, room);
+    let left = cuts::cut_minus(redtot, total(rounded));
+    hand_out(rounded, rem, left)
+}
+
+// The schedules less their shares, which every later rule reads.
+pub fn reduce(das: [Kw; 5], red: [Cut; 5]) -> [Kw; 5]
+    requires { ⌜ Close das × SmallFive red ⌝ }
+    ensures { λ r. ⌜ r ≡ kwFive (λ j. kwAt das j -ℤ pos (cutAt red j)) ⌝ }
+{
+    let mut reduced = [Kw(0); 5];
     let mut j: usize = 0;
     while j < 5 {
-        q[j] = cuts::kw_cut(d[j], c[j]);
+        reduced[j] = cuts::kw_cut(das[j], red[j]);
         j += 1;
     }
-    q
+    reduced
 }

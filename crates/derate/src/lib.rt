@@ -13,7 +13,8 @@ use tariff::Uol;
 mod cuts;
 mod five;
 
-// The five schedules of an interval after its derate; `exceeds` where the reduction has no room, and they are then as day ahead.
+// The five schedules of an interval after its derate; `exceeds` where the reduction has no room, or a figure is out of range, and they are then
+// as day ahead.
 pub struct Derated {
     pub exceeds: bool,
     pub schedules: [Kw; 5],
@@ -42,43 +43,43 @@ fn live_five(v: Interval) -> [Kw; 5]
 }
 
 // Whether the schedules and the limit are small enough for their sums and products.
-fn in_range(d: [Kw; 5], live: [Kw; 5], limit: Kw) -> bool
-    ensures { λ r. ⌜ r ≡ (arePowers (kwAt d) && arePowers (kwAt live) && isPower (limit .0)) ⌝ }
+fn in_range(das: [Kw; 5], rts: [Kw; 5], limit: Kw) -> bool
+    ensures { λ r. ⌜ r ≡ (arePowers (kwAt das) && arePowers (kwAt rts) && isPower (limit .0)) ⌝ }
 {
-    five::are_powers(d) & five::are_powers(live) & units::lies_in(limit.0, -2000000, 2000000)
+    five::are_powers(das) & five::are_powers(rts) & units::lies_in(limit.0, -2000000, 2000000)
 }
 
-// Judges its figures first: any values in any field are answered.
+// Judges its figures first: any values in any field are answered. The names are 25.5's: DAS, RTS, POTRED, REDtot, and RED for the shares.
 pub fn derate_of(a: DayAhead, v: Interval) -> Derated
     ensures { λ r. ⌜ r ≡ derateOf a v ⌝ }
 {
-    let d = ahead_five(a);
+    let das = ahead_five(a);
     let uol = v.uol;
     let Uol::At(limit) = uol else {
         return Derated {
             exceeds: false,
-            schedules: d,
+            schedules: das,
         };
     };
-    let live = live_five(v);
-    if !in_range(d, live, limit) {
+    let rts = live_five(v);
+    if !in_range(das, rts, limit) {
         return Derated {
             exceeds: true,
-            schedules: d,
+            schedules: das,
         };
     }
-    let pot = five::potentials(d, live);
-    let red = cuts::cut_from(five::sum_five(d), limit);
-    let room = five::total(pot);
-    if room.0 < red.0 {
+    let potred = five::potentials(das, rts);
+    let redtot = cuts::cut_from(five::sum_five(das), limit);
+    let room = five::total(potred);
+    if room.0 < redtot.0 {
         return Derated {
             exceeds: true,
-            schedules: d,
+            schedules: das,
         };
     }
-    let q = five::reduce(d, five::shares(pot, red));
+    let reduced = five::reduce(das, five::shares(potred, redtot));
     Derated {
         exceeds: false,
-        schedules: q,
+        schedules: reduced,
     }
 }

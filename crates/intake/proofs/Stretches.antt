@@ -1,6 +1,6 @@
 -- The next bytes of a line: where its line feed stands, and that a stretch taken in at once leaves what its bytes leave one by one.
 use mathlib.Core.Path.{_≡_, refl, sym, _∙_, ap}
-use mathlib.Core.Bool.{Bool, true, false, _||_, and-false, false≢true}
+use mathlib.Core.Bool.{Bool, true, false, _||_, and-false}
 use mathlib.Core.List.{List, [], _∷_, _++_, append-nil}
 use Prim.Native.Nat.{ℕ, zero, suc, _+_, _-_, _≤_, _<_, min}
 use native.Mathlib.Nat.{zero-add, suc-add, add-sub-cancel-left}
@@ -11,16 +11,13 @@ use lib.Dec.{eqb}
 use lib.ListN.{length, getD, set, take, drop, length-set, length-take, length-drop, take-append-drop, drop-of-length-le}
 use lib.Seq.{sets, length-sets, drop-cons, drop-drop, take-take, take-all, take-length, length-take-le}
 use Rattle.exact.proofs.Parts.{by-test}
+use Rattle.exact.proofs.Tests.{neither}
 use Rattle.lines.specs.Pieces.{PIECE}
 use Rattle.intake.specs.declared.Intake.{Intake}
 use Rattle.intake.specs.Intake.{closesPiece, placed}
 use Rattle.intake.specs.Stretch.{hasFeed, lineRest, openFor, stretchOf, longer}
 use Rattle.intake.proofs.Step.{copied, sets-placed, stepped}
 use Rattle.intake.proofs.Store.{Same, one-more}
-
-neither : (a b : Bool) → (a || b) ≡ false → (a ≡ false) × (b ≡ false)
-neither true b e = absurd (false≢true (sym e))
-neither false b e = (refl, e)
 
 -- ---- a line feed among the bytes from a place on
 

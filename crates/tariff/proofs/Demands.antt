@@ -24,7 +24,8 @@ use Rattle.tariff.specs.Sheet.{endOf, priceOf, beginOf, curveKeeps}
 use Rattle.tariff.specs.Curve.{known, quote, change, integral}
 use Rattle.tariff.specs.Reply.{Reply, paid, refused, FORM, RANGE, ORDER, CURVE, SECONDS, DERATE, REACH, ROOM, Verdict, told, shown, clear, fault}
 use Rattle.tariff.specs.Eligible.{lags}
-use Rattle.tariff.specs.Derate.{ofFive, redTot, potRed, floorOf, remainder, leftOver, isBefore, share}
+use Rattle.tariff.specs.Derate.{ofFive, redTot, potRed, floorOf, remainder, leftOver, one, isBefore, share}
+use Rattle.tariff.specs.Rounds.{servedIn}
 use Rattle.tariff.specs.Hour.{interval, partsOf, outcome, outcomeAt, contribution, blockFault, reply, rowAfter, form, range, order, intervals}
 use Rattle.tariff.specs.Outcome.{gives}
 use Rattle.tariff.specs.Demand.{MustPrice, priceIn, FirstUnpriced, FirstExceeded, UnpricedBeforeDerate, ExceededBeforeReach}
@@ -40,7 +41,8 @@ use Rattle.tariff.proofs.Alike.{alike-outcome, alike-same, extended-pri
 use Rattle.tariff.proofs.Curves.{turned}
 use Rattle.tariff.proofs.Steps.{more-quoted, priced-when, when-priced, first-ending, in-step}
 use Rattle.tariff.proofs.Ranks.{before-when}
-use Rattle.tariff.proofs.Shares.{one-or-none, served-first, shares-sum, share-bound}
+use Rattle.tariff.proofs.Shares.{one-or-none, served-first, left-small, shares-sum, share-bound}
+use Rattle.tariff.proofs.Rounds.{served-as-many, share-in-rounds}
 use Rattle.tariff.proofs.Answers.{answerOf, answer-back, findingOf, finding-back}
 
 -- ---- demand 3
@@ -297,3 +299,18 @@ left-over-goes-to-the-largest pot red i j = served-first (remainder pot red) (le
 -- by a larger remainder, or by the same and earlier in the order.
 pub before-exactly-when-larger-or-earlier : (rem : ℕ → ℕ) (i j : ℕ) → (isBefore rem i j ≡ true) ↔ ((rem j < rem i) ⊎ ((rem i ≡ rem j) × (i < j)))
 before-exactly-when-larger-or-earlier rem i j = before-when (rem i) (rem j) i j
+
+-- Handed out in rounds, each giving one kW to the largest remainder not yet served, they come to these very shares:
+pub rounds-give-the-shares :
+    (pot : ℕ → ℕ) (red j : ℕ)
+    → red ≤ ofFive pot
+    → j < 5
+    → share pot red j ≡ floorOf pot red j + one (servedIn (remainder pot red) (leftOver pot red) j)
+rounds-give-the-shares = share-in-rounds
+
+-- four rounds at most, each of which serves one more.
+pub four-rounds-at-most : (pot : ℕ → ℕ) (red : ℕ) → red ≤ ofFive pot → leftOver pot red ≤ 4
+four-rounds-at-most = left-small
+
+pub a-round-serves-one-more : (rem : ℕ → ℕ) (rounds : ℕ) → rounds ≤ 5 → ofFive (λ j. one (servedIn rem rounds j)) ≡ rounds
+a-round-serves-one-more = served-as-many

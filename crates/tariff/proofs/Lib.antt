@@ -13,6 +13,7 @@ pub mod Curves
 pub mod Scan
 pub mod Ranks
 pub mod Shares
+pub mod Rounds
 pub mod Reduced
 pub mod Limits
 pub mod Others

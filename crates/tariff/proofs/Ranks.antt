@@ -1,7 +1,7 @@
 -- Five schedules in a row by remainder: of their ranks exactly n are below n, for every n up to 5.
 use mathlib.Core.Path.{_≡_, refl, sym, _∙_, ap}
 use mathlib.Core.Logic.{_≢_, _↔_, _⊎_, inl, inr}
-use mathlib.Core.Bool.{Bool, true, false, _&&_, _||_}
+use mathlib.Core.Bool.{Bool, true, false, _&&_, _||_, or-true}
 use Prim.Native.Nat.{ℕ, zero, suc, _+_, _-_, _*_, _<_, _≤_, min}
 use native.Mathlib.Nat.{zero-add, add-zero, add-suc}
 use native.Mathlib.Decide.{decLt}
@@ -41,10 +41,6 @@ halves true b c e = inl refl
 halves false true true e = inr (refl, refl)
 halves false true false e = impossible cc
 halves false false c e = impossible cc
-
-or-true : (a : Bool) → (a || true) ≡ true
-or-true true = refl
-or-true false = refl
 
 -- ---- what holds at each of five, and sums of five
 
@@ -146,6 +142,10 @@ module _ (rem : ℕ → ℕ) where
       (λ t. one (t && ltb i j) ≡ min 1 (rem i * 5 + j - (rem j * 5 + i)))
       (λ q. omega (arith, eqb-true (rem i) (rem j) q, one-lt i j))
       (λ q. let differ : rem i ≢ rem j = eqb-false (rem i) (rem j) q in omega (arith, ltb-false (rem j) (rem i) e)))
+
+  pub not-before : (i j : ℕ) → i < 5 → j < 5 → (isBefore rem i j ≡ false) ↔ (rem i * 5 + j ≤ rem j * 5 + i)
+  not-before i j u v =
+      (λ e. omega (arith, one-before i j u v, ap one e), λ h. by-test (isBefore rem i j) (λ t. t ≡ false) (λ e. absurd (omega (arith, one-before i j u v, ap one e))) (λ e. refl))
 
   rank-lt : (i j : ℕ) → i < 5 → j < 5 → rem j * 5 + i < rem i * 5 + j → rank rem i < rank rem j
   rank-lt i j u v h =

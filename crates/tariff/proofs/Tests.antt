@@ -27,6 +27,11 @@ unfolding allTo
 all-same f g zero e = refl
 all-same f g (suc n) e = λ i. all-same f g n (λ k u. e k (omega arith)) i && e n (omega arith) i
 
+pub all-of : (f : ℕ → Bool) (n : ℕ) → ((k : ℕ) → k < n → f k ≡ true) → allTo f n ≡ true
+unfolding allTo
+all-of f zero h = refl
+all-of f (suc n) h = and-both (allTo f n) (f n) (all-of f n (λ k u. h k (omega arith))) (h n (omega arith))
+
 pub all-at : (f : ℕ → Bool) (n j : ℕ) → allTo f n ≡ true → j < n → f j ≡ true
 unfolding allTo
 all-at f zero j e u = absurd (omega arith)

@@ -55,7 +55,7 @@ isBefore rem i j = ltb (rem j) (rem i) || (eqb (rem i) (rem j) && ltb i j)
 abbrev pub rank : (ℕ → ℕ) → ℕ → ℕ
 rank rem j = ofFive (λ i. one (isBefore rem i j))
 
--- one kilowatt more for each of the first, as many as are left over
+-- one kilowatt more for each of the first, as many as are left over; Rounds.antt hands them out round by round
 unfoldable pub share : (ℕ → ℕ) → ℕ → ℕ → ℕ
 share pot red j = floorOf pot red j + one (ltb (rank (remainder pot red) j) (leftOver pot red))
 

@@ -7,6 +7,8 @@ pub mod Checks
 pub mod Outcome
 pub mod Eligible
 pub mod Derate
+pub mod Rounds
+pub mod RoundsExample
 pub mod Contributions
 pub mod Hour
 pub mod Demand

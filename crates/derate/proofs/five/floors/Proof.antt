@@ -9,10 +9,10 @@ use Rattle.derate.proofs.five.floors.Statement.{statement}
 use Rattle.derate.proofs.five.floors.Tie as tie
 
 abbrev Inv-loop : tie.InvT-loop
-Inv-loop red room pot low₀ j₀ low j = Filled (cut 0) (λ k. cut (floorOf (cutAt pot) (red .0) k)) low j
+Inv-loop redtot room potred rounded₀ j₀ rounded j = Filled (cut 0) (λ k. cut (floorOf (cutAt potred) (redtot .0) k)) rounded j
 
 abbrev μ-loop : tie.MeasureT-loop
-μ-loop red room pot low₀ j₀ low j = 5 - j
+μ-loop redtot room potred rounded₀ j₀ rounded j = 5 - j
 
 floor-of-requires : tie.Need-floor-of-requires Inv-loop μ-loop
 floor-of-requires c κs =
@@ -25,7 +25,7 @@ loop-again c =
     let k = c .before .before in
     let l = k .before .loop in
     let s = k .before .before in
-    let is = floor-is (cutAt (s .args .t1)) (s .args .red .0) (s .args .room .0) (s .pre .2) (l .j) in
+    let is = floor-is (cutAt (s .args .t1)) (s .args .redtot .0) (s .args .room .0) (s .pre .2) (l .j) in
     filled-more (l .inv) (k .loop-test .taken) (ap cut (c .floor-of .ensures ∙ is))
 
 pub floors-spec : {M : Type 1} → statement M

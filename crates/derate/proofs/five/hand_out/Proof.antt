@@ -1,31 +1,35 @@
--- `five::hand_out` fills in each floor, with one more for the first ranks: those before `j` stand, and nothing behind them.
-use mathlib.Core.Path.{_∙_, ap}
-use Prim.Native.Nat.{ℕ, _+_, _-_}
+-- `five::hand_out` goes round by round: before each, the shares and who is served are those after as many rounds.
+use Prim.Native.Nat.{_-_, _≤_}
 use native.Mathlib.Omega.{arith}
-use lib.Dec.{ltb}
-use Rattle.tariff.specs.Derate.{one, rank}
-use Rattle.derate.specs.Five.{cut, cutAt}
-use Rattle.derate.proofs.Fives.{Filled, filled-none, filled-more, filled-all}
+use Rattle.derate.proofs.Rounds.{Handed, handed-none, handed-all, handed-waits, next-small, handed-more}
 use Rattle.derate.proofs.five.hand_out.Statement.{statement}
 use Rattle.derate.proofs.five.hand_out.Tie as tie
 
 abbrev Inv-loop : tie.InvT-loop
-Inv-loop rem left low shares₀ j₀ shares j =
-    Filled (cut 0) (λ k. cut (cutAt low k + one (ltb (rank (cutAt rem) k) (left .0)))) shares j
+Inv-loop rem left rounded served₀ rounds₀ red served rounds = (rounds ≤ left .0) × Handed rounded rem red served rounds
 
 abbrev μ-loop : tie.MeasureT-loop
-μ-loop rem left low shares₀ j₀ shares j = 5 - j
+μ-loop rem left rounded served₀ rounds₀ red served rounds = left .0 - rounds
 
-share-of-requires : tie.Need-share-of-requires Inv-loop μ-loop
-share-of-requires c κs = let k = c .before .before in k .before .before .pre .small (k .before .loop .j) (k .loop-test .taken)
+loop-holds : tie.Need-loop-holds Inv-loop μ-loop
+loop-holds c = (omega arith, handed-none (c .args .rounded) (c .args .rem) (c .good .0 .1 .0 .1))
+
+largest-requires : tie.Need-largest-requires Inv-loop μ-loop
+largest-requires c κs =
+    let l = c .before .before in
+    handed-waits (l .loop .inv .1) (omega (arith, l .before .pre .1))
+
+one-more-requires : tie.Need-one-more-requires Inv-loop μ-loop
+one-more-requires c κs =
+    let k = c .before in
+    let l = k .before .before .before in
+    next-small (l .loop .inv .1) _ (k .largest .ensures .0) (k .largest .ensures .1) (l .before .pre .0)
 
 loop-again : tie.Need-loop-again Inv-loop μ-loop
 loop-again c =
-    let k = c .before .before .before in
-    let s = k .before .before .args in
-    let low = cutAt (s .t1) (k .before .loop .j) in
-    filled-more (k .before .loop .inv) (k .loop-test .taken)
-    (ap cut (c .share-of .ensures ∙ ap (λ (n : ℕ). low + one (ltb n (s .left .0))) (c .before .rank-of .ensures)))
+    let k = c .before .before in
+    let l = k .before .before .before in
+    (omega arith, handed-more (l .loop .inv .1) _ (k .largest .ensures .0) (k .largest .ensures .1) (c .one-more .ensures))
 
 pub hand-out-spec : {M : Type 1} → statement M
 hand-out-spec =
@@ -33,10 +37,15 @@ hand-out-spec =
     (tie.spec
     Inv-loop
     μ-loop
-    (λ c. filled-none)
-    (λ c. omega arith) (λ c. omega arith)
-    (λ c κs. c .before .loop-test .taken)
-    share-of-requires
-    (λ c. omega arith) (λ c. omega arith) (λ c. omega arith) (λ c. omega arith)
+    loop-holds
+    largest-requires
+    (λ c. omega (arith, c .largest .ensures .0))
+    (λ c. c .largest .ensures .0)
+    one-more-requires
+    (λ c. omega (arith, c .before .before .largest .ensures .0))
+    (λ c. c .before .before .largest .ensures .0)
+    (λ c. c .before .before .largest .ensures .0)
+    (λ c. omega arith)
+    (λ c. omega arith)
     loop-again
-    (λ c. filled-all (c .before .loop .inv) (c .loop-test .left)))
+    (λ c. handed-all (c .before .before .loop .inv .1) (omega arith)))

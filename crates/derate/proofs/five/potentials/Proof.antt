@@ -11,10 +11,10 @@ use Rattle.derate.proofs.five.potentials.Statement.{statement}
 use Rattle.derate.proofs.five.potentials.Tie as tie
 
 abbrev Inv-loop : tie.InvT-loop
-Inv-loop d live pot₀ j₀ pot j = Filled (cut 0) (λ k. cut (over (kwAt d k -ℤ kwAt live k))) pot j
+Inv-loop das rts potred₀ j₀ potred j = Filled (cut 0) (λ k. cut (over (kwAt das k -ℤ kwAt rts k))) potred j
 
 abbrev μ-loop : tie.MeasureT-loop
-μ-loop d live pot₀ j₀ pot j = 5 - j
+μ-loop das rts potred₀ j₀ potred j = 5 - j
 
 cut-from-requires : tie.Need-cut-from-requires Inv-loop μ-loop
 cut-from-requires c κs =

@@ -10,10 +10,10 @@ use Rattle.derate.proofs.five.reduce.Statement.{statement}
 use Rattle.derate.proofs.five.reduce.Tie as tie
 
 abbrev Inv-loop : tie.InvT-loop
-Inv-loop d c q₀ j₀ q j = Filled (kw (pos 0)) (λ k. kw (kwAt d k -ℤ pos (cutAt c k))) q j
+Inv-loop das red reduced₀ j₀ reduced j = Filled (kw (pos 0)) (λ k. kw (kwAt das k -ℤ pos (cutAt red k))) reduced j
 
 abbrev μ-loop : tie.MeasureT-loop
-μ-loop d c q₀ j₀ q j = 5 - j
+μ-loop das red reduced₀ j₀ reduced j = 5 - j
 
 kw-cut-requires : tie.Need-kw-cut-requires Inv-loop μ-loop
 kw-cut-requires c κs =

@@ -9,10 +9,10 @@ use Rattle.derate.proofs.five.remainders.Statement.{statement}
 use Rattle.derate.proofs.five.remainders.Tie as tie
 
 abbrev Inv-loop : tie.InvT-loop
-Inv-loop red room pot rem₀ j₀ rem j = Filled (cut 0) (λ k. cut (remainder (cutAt pot) (red .0) k)) rem j
+Inv-loop redtot room potred rem₀ j₀ rem j = Filled (cut 0) (λ k. cut (remainder (cutAt potred) (redtot .0) k)) rem j
 
 abbrev μ-loop : tie.MeasureT-loop
-μ-loop red room pot rem₀ j₀ rem j = 5 - j
+μ-loop redtot room potred rem₀ j₀ rem j = 5 - j
 
 remainder-of-requires : tie.Need-remainder-of-requires Inv-loop μ-loop
 remainder-of-requires c κs =
@@ -25,7 +25,7 @@ loop-again c =
     let k = c .before .before in
     let l = k .before .loop in
     let s = k .before .before in
-    let is = remainder-is (cutAt (s .args .t1)) (s .args .red .0) (s .args .room .0) (s .pre .2) (l .j) in
+    let is = remainder-is (cutAt (s .args .t1)) (s .args .redtot .0) (s .args .room .0) (s .pre .2) (l .j) in
     filled-more (l .inv) (k .loop-test .taken) (ap cut (c .remainder-of .ensures ∙ is))
 
 pub remainders-spec : {M : Type 1} → statement M

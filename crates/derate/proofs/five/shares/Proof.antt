@@ -2,28 +2,37 @@
 use Prim.Native.Nat.{_≤_}
 use native.Mathlib.Omega.{arith}
 use Rattle.derate.specs.Five.{cutAt, SmallFive}
-use Rattle.derate.proofs.Fives.{small-all, low-small, low-within, shares-are}
+use Rattle.derate.proofs.Fives.{small-all, low-small, low-within}
+use Rattle.derate.proofs.Rounds.{left-few, shares-are}
 use Rattle.derate.proofs.five.shares.Statement.{statement}
 use Rattle.derate.proofs.five.shares.Tie as tie
 
-few : (c : tie.Start) → c .args .red .0 ≤ 24000000
-few c = omega (arith, small-all (c .args .pot) (c .pre .0))
+few : (c : tie.Start) → c .args .redtot .0 ≤ 24000000
+few c = omega (arith, small-all (c .args .potred) (c .pre .0))
 
 small : (c : tie.After-floors) → SmallFive (c .floors .result)
-small c = let s = c .before .before in low-small (s .args .pot) (s .args .red .0) (s .pre .0) (s .pre .1) (c .floors .ensures)
+small c = let s = c .before .before in low-small (s .args .potred) (s .args .redtot .0) (s .pre .0) (s .pre .1) (c .floors .ensures)
 
 cut-minus-requires : tie.Need-cut-minus-requires
 cut-minus-requires c κs =
     let f = c .before .before in
     let s = f .before .before in
-    low-within (s .args .pot) (s .args .red .0) (s .pre .0) (s .pre .1) (f .floors .ensures) _ (c .total2 .ensures)
+    low-within (s .args .potred) (s .args .redtot .0) (s .pre .0) (s .pre .1) (f .floors .ensures) _ (c .total2 .ensures)
+
+hand-out-requires : tie.Need-hand-out-requires
+hand-out-requires c κs =
+    let t = c .before in
+    let f = t .before .before in
+    let s = f .before .before in
+    (small f, left-few (cutAt (s .args .potred)) (s .args .redtot .0) (s .pre .1) (f .floors .ensures) (t .total2 .ensures) (c .cut-minus .ensures))
 
 returns : tie.Need-returns
 returns c =
-    let t = c .before .before in
+    let m = c .before in
+    let t = m .before in
     let f = t .before .before in
-    let s = f .before .before .args in
-    shares-are (cutAt (s .pot)) (s .red .0) (f .floors .ensures) (t .before .remainders .ensures) (t .total2 .ensures) (c .before .cut-minus .ensures) (c .hand-out .ensures)
+    let s = f .before .before in
+    shares-are (cutAt (s .args .potred)) (s .args .redtot .0) (s .pre .1) (f .floors .ensures) (t .total2 .ensures) (m .cut-minus .ensures) (t .before .remainders .ensures) (c .hand-out .ensures)
 
 pub shares-spec : {M : Type 1} → statement M
 shares-spec =
@@ -34,5 +43,5 @@ shares-spec =
     (λ c κs. (c .before .before .pre .0, few (c .before .before), c .before .total .ensures))
     (λ c κs. small (c .before))
     cut-minus-requires
-    (λ c κs. small (c .before .before .before))
+    hand-out-requires
     returns)

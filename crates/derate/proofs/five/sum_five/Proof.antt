@@ -11,10 +11,10 @@ use Rattle.derate.proofs.five.sum_five.Statement.{statement}
 use Rattle.derate.proofs.five.sum_five.Tie as tie
 
 abbrev Inv-loop : tie.InvT-loop
-Inv-loop d sum₀ j₀ sum j = (j ≤ 5) × (sum .0 ≡ sumTo (kwAt d) j)
+Inv-loop das sum₀ j₀ sum j = (j ≤ 5) × (sum .0 ≡ sumTo (kwAt das) j)
 
 abbrev μ-loop : tie.MeasureT-loop
-μ-loop d sum₀ j₀ sum j = 5 - j
+μ-loop das sum₀ j₀ sum j = 5 - j
 
 loop-holds : tie.Need-loop-holds Inv-loop μ-loop
 loop-holds c = (omega arith, sym (sum-none (kwAt (c .args .t1))))
@@ -30,16 +30,16 @@ kw-sum-requires c κs =
 
 loop-again : tie.Need-loop-again Inv-loop μ-loop
 loop-again c =
-    let d = c .before .before .before .before .args .t1 in
+    let das = c .before .before .before .before .args .t1 in
     let l = c .before .before .before .loop in
-    (omega arith, c .kw-sum .ensures ∙ ap (λ z. z +ℤ kwAt d (l .j)) (l .inv .1) ∙ sym (sum-more (kwAt d) (l .j)))
+    (omega arith, c .kw-sum .ensures ∙ ap (λ z. z +ℤ kwAt das (l .j)) (l .inv .1) ∙ sym (sum-more (kwAt das) (l .j)))
 
 returns : tie.Need-returns Inv-loop μ-loop
 returns c =
-    let d = c .before .before .args .t1 in
+    let das = c .before .before .args .t1 in
     let l = c .before .loop in
     let all : l .j ≡ 5 = omega arith in
-    l .inv .1 ∙ ap (sumTo (kwAt d)) all
+    l .inv .1 ∙ ap (sumTo (kwAt das)) all
 
 pub sum-five-spec : {M : Type 1} → statement M
 sum-five-spec =
