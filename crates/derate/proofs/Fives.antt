@@ -1,7 +1,7 @@
 -- Arrays of five: filled place by place, the ranges of all five, and the parts and shares of a reduction in them.
 use mathlib.Core.Path.{_≡_, refl, _∙_, ap}
 use mathlib.Core.List.{List, [], _∷_}
-use Prim.Native.Nat.{ℕ, zero, suc, _+_, _-_, _<_, _≤_}
+use Prim.Native.Nat.{ℕ, zero, suc, _+_, _<_, _≤_}
 use native.Mathlib.Omega.{arith}
 use lib.Dec.{ltb, eqb}
 use lib.IntN.{ℤ, pos}
@@ -128,13 +128,13 @@ pub shares-small : (pot : List Cut) (red : ℕ) → SmallFive pot → red ≤ of
 shares-small pot red small fits l e =
     rw e (smalls (share (cutAt pot) red) (λ j u. omega (arith, share-bound (cutAt pot) red fits j, small .small j u)))
 
-module _ (pot : List Cut) (red : ℕ) (small : SmallFive pot) (fits : red ≤ ofFive (cutAt pot)) {low : List Cut} (e : low ≡ cutFive (floorOf (cutAt pot) red)) where
-  pub low-small : SmallFive low
-  low-small =
+module _ (pot : List Cut) (red : ℕ) (small : SmallFive pot) (fits : red ≤ ofFive (cutAt pot)) {rounded : List Cut} (e : rounded ≡ cutFive (floorOf (cutAt pot) red)) where
+  pub rounded-small : SmallFive rounded
+  rounded-small =
       rw e (smalls (floorOf (cutAt pot) red) (λ j u. omega (arith, floor-bound (cutAt pot) red fits j, small .small j u)))
 
-  low-sum : ofFive (cutAt low) ≡ ofFive (floorOf (cutAt pot) red)
-  low-sum = ap (λ l. ofFive (cutAt l)) e
+  rounded-sum : ofFive (cutAt rounded) ≡ ofFive (floorOf (cutAt pot) red)
+  rounded-sum = ap (λ l. ofFive (cutAt l)) e
 
-  pub low-within : (sum : ℕ) → sum ≡ ofFive (cutAt low) → sum ≤ red
-  low-within sum h = omega (arith, low-sum, floors-left (cutAt pot) red fits)
+  pub rounded-within : (sum : ℕ) → sum ≡ ofFive (cutAt rounded) → sum ≤ red
+  rounded-within sum h = omega (arith, rounded-sum, floors-left (cutAt pot) red fits)

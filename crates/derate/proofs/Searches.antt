@@ -14,8 +14,8 @@ use Rattle.tariff.proofs.Ranks.{five-same, not-before}
 use Rattle.tariff.proofs.Rounds.{yields, is-largest}
 
 module _ (rem : ℕ → ℕ) (served : ℕ → Bool) where
-  -- of the places before j: where one is not served, nor is the one found, and does not come behind it. Each remainder counts five times, less
-  -- its place, as in Ranks of tariff
+  -- of the places before j: if any is not served, the one found is not, and none that is not comes before it. Each remainder counts five times,
+  -- less its place, as in Ranks of tariff
   pub record Leads (found j : ℕ) : Type 0 where
     pub few : j ≤ 5
     pub among : found < j

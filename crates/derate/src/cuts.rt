@@ -17,15 +17,15 @@ pub fn kw_sum(sum: Kw, k: Kw) -> Kw
     Kw(sum.0 + k.0)
 }
 
-// How far `d` lies above `live`, or nothing.
-pub fn cut_from(d: Kw, live: Kw) -> Cut
-    requires { ⌜ Within 12000000 (d .0) × Within 12000000 (live .0) ⌝ }
-    ensures { λ r. ⌜ r .0 ≡ over (d .0 -ℤ live .0) ⌝ }
+// How far `a` lies above `b`, or nothing: a POTRED, or REDtot.
+pub fn cut_from(a: Kw, b: Kw) -> Cut
+    requires { ⌜ Within 12000000 (a .0) × Within 12000000 (b .0) ⌝ }
+    ensures { λ r. ⌜ r .0 ≡ over (a .0 -ℤ b .0) ⌝ }
 {
-    if d.0 < live.0 {
+    if a.0 < b.0 {
         Cut(0)
     } else {
-        Cut((d.0 - live.0) as u64)
+        Cut((a.0 - b.0) as u64)
     }
 }
 
@@ -36,34 +36,34 @@ pub fn cut_minus(a: Cut, b: Cut) -> Cut
     Cut(a.0 - b.0)
 }
 
-pub fn kw_cut(d: Kw, c: Cut) -> Kw
-    requires { ⌜ Within 2000000 (d .0) × (c .0 ≤ 4000000) ⌝ }
-    ensures { λ r. ⌜ r .0 ≡ d .0 -ℤ pos (c .0) ⌝ }
+pub fn kw_cut(das: Kw, red: Cut) -> Kw
+    requires { ⌜ Within 2000000 (das .0) × (red .0 ≤ 4000000) ⌝ }
+    ensures { λ r. ⌜ r .0 ≡ das .0 -ℤ pos (red .0) ⌝ }
 {
-    Kw(d.0 - (c.0 as i64))
+    Kw(das.0 - (red.0 as i64))
 }
 
 // A potential's part of the reduction, rounded down.
-pub fn floor_of(p: Cut, red: Cut, room: Cut) -> Cut
-    requires { ⌜ (p .0 ≤ 4000000) × (red .0 ≤ 24000000) ⌝ }
-    ensures { λ r. ⌜ r .0 ≡ floorBy (room .0) (p .0) (red .0) ⌝ }
+pub fn floor_of(potred: Cut, redtot: Cut, room: Cut) -> Cut
+    requires { ⌜ (potred .0 ≤ 4000000) × (redtot .0 ≤ 24000000) ⌝ }
+    ensures { λ r. ⌜ r .0 ≡ floorBy (room .0) (potred .0) (redtot .0) ⌝ }
 {
     if room.0 == 0 {
         Cut(0)
     } else {
-        Cut(p.0 * red.0 / room.0)
+        Cut(potred.0 * redtot.0 / room.0)
     }
 }
 
 // What the rounding leaves over, in parts of the room.
-pub fn remainder_of(p: Cut, red: Cut, room: Cut) -> Cut
-    requires { ⌜ (p .0 ≤ 4000000) × (red .0 ≤ 24000000) ⌝ }
-    ensures { λ r. ⌜ r .0 ≡ remainderBy (room .0) (p .0) (red .0) ⌝ }
+pub fn remainder_of(potred: Cut, redtot: Cut, room: Cut) -> Cut
+    requires { ⌜ (potred .0 ≤ 4000000) × (redtot .0 ≤ 24000000) ⌝ }
+    ensures { λ r. ⌜ r .0 ≡ remainderBy (room .0) (potred .0) (redtot .0) ⌝ }
 {
     if room.0 == 0 {
         Cut(0)
     } else {
-        Cut(p.0 * red.0 % room.0)
+        Cut(potred.0 * redtot.0 % room.0)
     }
 }
 

@@ -1,20 +1,15 @@
 -- The steps of a curve, of which a record has 12 entries: behind them stand zeros, which are in their ranges.
-use mathlib.Core.Path.{_≡_, refl, sym}
-use mathlib.Core.Bool.{Bool, true, false, _&&_, and-false}
-use Prim.Native.Nat.{ℕ, zero, suc, _<_, _≤_}
+use mathlib.Core.Path.{_≡_, sym}
+use mathlib.Core.Bool.{true, false, _&&_, and-false}
+use Prim.Native.Nat.{ℕ, _<_, _≤_}
 use native.Mathlib.Decide.{decLt}
 use native.Mathlib.Omega.{arith}
 use lib.IntN.{pos}
 use lib.ListN.{length, List·getD-eq-default}
 use Rattle.tariff.specs.declared.Curve.{Curve}
 use Rattle.tariff.specs.Units.{kw, price}
-use Rattle.tariff.specs.Sheet.{isPower, isPrice, allTo, stepInRange, curveInRange}
-use Rattle.tariff.proofs.Tests.{and-both, all-not}
-
-all-each : (f : ℕ → Bool) (n : ℕ) → ((k : ℕ) → k < n → f k ≡ true) → allTo f n ≡ true
-unfolding allTo
-all-each f zero e = refl
-all-each f (suc n) e = and-both (allTo f n) (f n) (all-each f n (λ k u. e k (omega arith))) (e n (omega arith))
+use Rattle.tariff.specs.Sheet.{isPower, isPrice, stepInRange, curveInRange}
+use Rattle.tariff.proofs.Tests.{all-of, all-not}
 
 module _ (c : Curve) where
   pub start-not : isPower (c .start .0) ≡ false → false ≡ curveInRange c
@@ -39,7 +34,7 @@ module _ (c : Curve) where
 
     pub all-are : isPower (c .start .0) ≡ true → ((k : ℕ) → k < c .n → k < 12 → stepInRange c k ≡ true) → true ≡ curveInRange c
     unfolding curveInRange
-    all-are s e = rw (s, all-each (stepInRange c) (c .n) (λ k u. each k u (decLt k 12)))
+    all-are s e = rw (s, all-of (stepInRange c) (c .n) (λ k u. each k u (decLt k 12)))
       where
         each : (k : ℕ) → k < c .n → Dec (k < 12) → stepInRange c k ≡ true
         each k u (yes v) = e k u v

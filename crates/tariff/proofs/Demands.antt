@@ -1,9 +1,8 @@
--- The theorems of the definitions: demand 3, when an hour is refused and what it pays, the lent row, the one answer to a reply, the curve, the
--- derate's shares.
+-- The theorems of the definitions: demand 3, when an hour is refused and what it pays, the lent row, the one answer to a reply, the curve.
 use mathlib.Core.Path.{_≡_, refl, sym, _∙_, ap}
 use mathlib.Core.Bool.{Bool, true, false}
 use mathlib.Core.List.{List}
-use mathlib.Core.Logic.{_↔_, _⊎_, Iff·rfl, Iff·trans, Iff·and}
+use mathlib.Core.Logic.{_↔_, Iff·rfl, Iff·trans, Iff·and}
 use Prim.Native.Nat.{ℕ, _+_, _-_, _<_, _≤_}
 use native.Mathlib.Omega.{arith}
 use lib.ListN.{length, getD}
@@ -13,8 +12,6 @@ use Rattle.exact.specs.Whole.{sumTo}
 use Rattle.exact.proofs.Apart.{impossible}
 use Rattle.exact.proofs.Sums.{sum-zeros}
 use Rattle.tariff.specs.declared.Curve.{Curve}
-use Rattle.tariff.specs.declared.DayAhead.{DayAhead}
-use Rattle.tariff.specs.declared.Interval.{Interval}
 use Rattle.tariff.specs.declared.Hour.{Hour}
 use Rattle.tariff.specs.declared.Expected.{Expected}
 use Rattle.tariff.specs.declared.Answer.{Answer}
@@ -24,8 +21,6 @@ use Rattle.tariff.specs.Sheet.{endOf, priceOf, beginOf, curveKeeps}
 use Rattle.tariff.specs.Curve.{known, quote, change, integral}
 use Rattle.tariff.specs.Reply.{Reply, paid, refused, FORM, RANGE, ORDER, CURVE, SECONDS, DERATE, REACH, ROOM, Verdict, told, shown, clear, fault}
 use Rattle.tariff.specs.Eligible.{lags}
-use Rattle.tariff.specs.Derate.{ofFive, redTot, potRed, floorOf, remainder, leftOver, one, isBefore, share}
-use Rattle.tariff.specs.Rounds.{servedIn}
 use Rattle.tariff.specs.Hour.{interval, partsOf, outcome, outcomeAt, contribution, blockFault, reply, rowAfter, form, range, order, intervals}
 use Rattle.tariff.specs.Outcome.{gives}
 use Rattle.tariff.specs.Demand.{MustPrice, priceIn, FirstUnpriced, FirstExceeded, UnpricedBeforeDerate, ExceededBeforeReach}
@@ -40,9 +35,6 @@ use Rattle.tariff.proofs.ByInterval.{first-unpriced, some-unpriced, fir
 use Rattle.tariff.proofs.Alike.{alike-outcome, alike-same, extended-price}
 use Rattle.tariff.proofs.Curves.{turned}
 use Rattle.tariff.proofs.Steps.{more-quoted, priced-when, when-priced, first-ending, in-step}
-use Rattle.tariff.proofs.Ranks.{before-when}
-use Rattle.tariff.proofs.Shares.{one-or-none, served-first, left-small, shares-sum, share-bound}
-use Rattle.tariff.proofs.Rounds.{served-as-many, share-in-rounds}
 use Rattle.tariff.proofs.Answers.{answerOf, answer-back, findingOf, finding-back}
 
 -- ---- demand 3
@@ -262,55 +254,3 @@ price-of-step c keeps j k u low high =
 pub downward-is-the-negative : (c : Curve) (a b : ℤ) → integral c a b ≡ change negℤ (integral c b a)
 unfolding integral
 downward-is-the-negative c = turned (quote c)
-
--- ---- the derate's shares
-
--- Shares are whole kW that sum to REDtot, where it does not exceed the room for it.
-pub shares-sum-to-the-reduction :
-    (a : DayAhead) (v : Interval) (limit : ℤ)
-    → redTot a limit ≤ ofFive (potRed a v)
-    → ofFive (share (potRed a v) (redTot a limit)) ≡ redTot a limit
-shares-sum-to-the-reduction a v limit = shares-sum (potRed a v) (redTot a limit)
-
--- None of them exceeds its POTRED.
-pub no-share-exceeds-its-potential :
-    (a : DayAhead) (v : Interval) (limit : ℤ)
-    → redTot a limit ≤ ofFive (potRed a v)
-    → (j : ℕ)
-    → share (potRed a v) (redTot a limit) j ≤ potRed a v j
-no-share-exceeds-its-potential a v limit = share-bound (potRed a v) (redTot a limit)
-
--- Each is rounded down, and the left-over kW go one each:
-pub at-most-one-each : (pot : ℕ → ℕ) (red j : ℕ) → (share pot red j ≡ floorOf pot red j) ⊎ (share pot red j ≡ floorOf pot red j + 1)
-unfolding share
-at-most-one-each pot red j = one-or-none (remainder pot red) (leftOver pot red) j (floorOf pot red j)
-
--- to the largest remainders, ties in the order energy, regulation, r1, r2, r3. If j has one, so has each i that comes before it:
-pub left-over-goes-to-the-largest :
-    (pot : ℕ → ℕ) (red i j : ℕ)
-    → i < 5
-    → j < 5
-    → isBefore (remainder pot red) i j ≡ true
-    → share pot red j ≡ floorOf pot red j + 1
-    → share pot red i ≡ floorOf pot red i + 1
-unfolding share
-left-over-goes-to-the-largest pot red i j = served-first (remainder pot red) (leftOver pot red) i j (floorOf pot red j) (floorOf pot red i)
-
--- by a larger remainder, or by the same and earlier in the order.
-pub before-exactly-when-larger-or-earlier : (rem : ℕ → ℕ) (i j : ℕ) → (isBefore rem i j ≡ true) ↔ ((rem j < rem i) ⊎ ((rem i ≡ rem j) × (i < j)))
-before-exactly-when-larger-or-earlier rem i j = before-when (rem i) (rem j) i j
-
--- Handed out in rounds, each giving one kW to the largest remainder not yet served, they come to these very shares:
-pub rounds-give-the-shares :
-    (pot : ℕ → ℕ) (red j : ℕ)
-    → red ≤ ofFive pot
-    → j < 5
-    → share pot red j ≡ floorOf pot red j + one (servedIn (remainder pot red) (leftOver pot red) j)
-rounds-give-the-shares = share-in-rounds
-
--- four rounds at most, each of which serves one more.
-pub four-rounds-at-most : (pot : ℕ → ℕ) (red : ℕ) → red ≤ ofFive pot → leftOver pot red ≤ 4
-four-rounds-at-most = left-small
-
-pub a-round-serves-one-more : (rem : ℕ → ℕ) (rounds : ℕ) → rounds ≤ 5 → ofFive (λ j. one (servedIn rem rounds j)) ≡ rounds
-a-round-serves-one-more = served-as-many

@@ -31,5 +31,6 @@ pub mod ImportRanges
 pub mod ImportGrains
 pub mod Imports
 pub mod Demands
+pub mod ShareDemands
 pub mod IclDemands
 pub mod Unique

@@ -29,7 +29,7 @@ loop-again : tie.Need-loop-again Inv-loop μ-loop
 loop-again c =
     let k = c .before .before in
     let l = k .before .before .before in
-    (omega arith, handed-more (l .loop .inv .1) _ (k .largest .ensures .0) (k .largest .ensures .1) (c .one-more .ensures))
+    (omega arith, handed-more (l .loop .inv .1) _ (k .largest .ensures .0) (k .largest .ensures .1) {c = c .one-more .result} (c .one-more .ensures))
 
 pub hand-out-spec : {M : Type 1} → statement M
 hand-out-spec =

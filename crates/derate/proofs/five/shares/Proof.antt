@@ -2,7 +2,7 @@
 use Prim.Native.Nat.{_≤_}
 use native.Mathlib.Omega.{arith}
 use Rattle.derate.specs.Five.{cutAt, SmallFive}
-use Rattle.derate.proofs.Fives.{small-all, low-small, low-within}
+use Rattle.derate.proofs.Fives.{small-all, rounded-small, rounded-within}
 use Rattle.derate.proofs.Rounds.{left-few, shares-are}
 use Rattle.derate.proofs.five.shares.Statement.{statement}
 use Rattle.derate.proofs.five.shares.Tie as tie
@@ -11,13 +11,13 @@ few : (c : tie.Start) → c .args .redtot .0 ≤ 24000000
 few c = omega (arith, small-all (c .args .potred) (c .pre .0))
 
 small : (c : tie.After-floors) → SmallFive (c .floors .result)
-small c = let s = c .before .before in low-small (s .args .potred) (s .args .redtot .0) (s .pre .0) (s .pre .1) (c .floors .ensures)
+small c = let s = c .before .before in rounded-small (s .args .potred) (s .args .redtot .0) (s .pre .0) (s .pre .1) (c .floors .ensures)
 
 cut-minus-requires : tie.Need-cut-minus-requires
 cut-minus-requires c κs =
     let f = c .before .before in
     let s = f .before .before in
-    low-within (s .args .potred) (s .args .redtot .0) (s .pre .0) (s .pre .1) (f .floors .ensures) _ (c .total2 .ensures)
+    rounded-within (s .args .potred) (s .args .redtot .0) (s .pre .0) (s .pre .1) (f .floors .ensures) _ (c .total2 .ensures)
 
 hand-out-requires : tie.Need-hand-out-requires
 hand-out-requires c κs =
