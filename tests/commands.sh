@@ -6,9 +6,9 @@
 #   sh commands.sh PATH-OF-HOUR PATH-OF-DAY PATH-OF-IMPORT PATH-OF-LINE PATH-OF-UP PATH-OF-DOWN
 #
 # The commands for the rows that exclude an hour, a unit's and a controllable
-# line's, are then tried on every hour of other headers, against what the program
-# pays. The last line counts what passed and what failed; the status is 1 if
-# anything failed.
+# line's, are then tried on every hour of other headers, with marks of the days
+# before and after too, against what the program pays. The last line counts what
+# passed and what failed; the status is 1 if anything failed.
 . "$(dirname -- "$0")/common.sh"
 
 all_programs commands "$@"
@@ -59,21 +59,29 @@ excluding=$(grep -l 'rtc' "$work"/run.*)
 unmarked=$(grep -l '"mark"' "$work"/run.*)
 [ -n "$excluding" ] && [ -n "$unmarked" ] || fail "the page has no command for an excluded hour"
 
-# A day of $5 hours that pays in each, but for what its header says: digit $2 of its row $1, from 0, is $3, and rtc $4. Form 1 has 24 hours.
+# A day that pays in each hour, but for what its three headers say: digit $2, from 0, of row $1 of header $5 is $3, and its rtc $4. The others have the
+# other rtc. The days have the hours $6, where - is a neighbour that is lacking. Form 1 has 24 hours.
 marked() {
-    awk -v row="$1" -v at="$2" -v digit="$3" -v rtc="$4" -v hours="$5" '
-        function marks(key, all, i) {
-            for (i = 0; i < hours; i++) all = all (key == row && i == at ? digit : key == "cat")
+    awk -v row="$1" -v at="$2" -v digit="$3" -v rtc="$4" -v head="$5" -v counts="$6" '
+        function marks(key, n, all, i) {
+            for (i = 0; i < hours[n]; i++) all = all (n == head && key == row && i == at ? digit : key == "cat")
             print key "=" all
         }
         BEGIN {
-            print hours == 24 ? "form=1" : "form=2\nhours=" hours
-            print "unit=4711\nrtc=" rtc
-            marks("cat")
-            for (i = 1; i <= 6; i++) marks("x" i)
+            split(counts, said, " ")
+            for (n = 0; n < 3; n++) {
+                hours[n] = said[n + 1]
+                if (hours[n] != "-") {
+                    print hours[n] == 24 ? "form=1" : "form=2\nhours=" hours[n]
+                    print "unit=4711\nrtc=" (n == head ? rtc : 1 - rtc)
+                    marks("cat", n)
+                    for (i = 1; i <= 6; i++) marks("x" i, n)
+                }
+                print ""
+            }
         }
         { block = block $0 "\n" }
-        END { for (i = 0; i < hours; i++) { sub(/hour=[0-9]*/, "hour=" i, block); printf "\n%s", block } }' samples/hour/sample.txt
+        END { for (i = 0; i < hours[1]; i++) { sub(/hour=[0-9]*/, "hour=" i, block); printf "%s%s", i ? "\n" : "", block } }' samples/hour/sample.txt
 }
 
 # A controllable line's day of $2 hours that pays in each, but for the one at $1: each mark is $3, and that one is 0.
@@ -100,26 +108,52 @@ same_hours() {
     if cmp -s "$work/got" "$work/want"; then pass; else fail "$4, $2 hours, $1: $(differ "$work/got" "$work/want")"; fi
 }
 
+# The row $1 with a mark at hour $2 of header $3, with rtc $4, on days of the hours $5.
+tried() {
+    digit=1
+    [ "$1" = cat ] && digit=0
+    marked "$1" "$2" "$digit" "$4" "$3" "$5" >"$work/sheet"
+    # shellcheck disable=SC2086
+    set -- "$1 at hour $2 of header $3 with rtc=$4 on days of $5" $5
+    same_hours "$1" "$3" "$excluding" day
+}
+
 for row in cat x1 x2 x3 x4 x5 x6; do
-    for at in 0 1 2 11 21 22 23; do
-        digit=1
-        [ "$row" = cat ] && digit=0
-        marked "$row" "$at" "$digit" 1 24 >"$work/sheet"
-        same_hours "$row at hour $at" 24 "$excluding" day
+    for at in 0 1 2 4 11 19 21 22 23; do
+        tried "$row" "$at" 1 1 "- 24 -"
     done
 done
 for row in x4 x5 x6; do
-    marked "$row" 12 1 0 24 >"$work/sheet"
-    same_hours "$row at hour 12 with rtc=0" 24 "$excluding" day
+    tried "$row" 12 1 0 "- 24 -"
 done
 for hours in 23 25; do
     for at in 0 $((hours - 3)) $((hours - 2)) $((hours - 1)); do
         for row in x3 x4; do
-            marked "$row" "$at" 1 0 "$hours" >"$work/sheet"
-            same_hours "$row at hour $at" "$hours" "$excluding" day
+            tried "$row" "$at" 1 0 "- $hours -"
         done
     done
 done
+
+# Over midnight, each neighbour with each count, the other one being there or not. What it reaches is told apart from what it does not.
+for days in "23 24 25" "24 25 23" "25 23 24" "24 24 -" "- 25 24"; do
+    # shellcheck disable=SC2086
+    set -- $days
+    for row in cat x1 x3 x4 x5 x6; do
+        [ "$1" = - ] || tried "$row" $(($1 - 1)) 0 1 "$days"
+        [ "$3" = - ] || tried "$row" 0 2 1 "$days"
+    done
+    for rtc in 0 1; do
+        for row in x4 x5; do
+            [ "$1" = - ] || tried "$row" $(($1 - 2)) 0 "$rtc" "$days"
+            [ "$3" = - ] || tried "$row" 1 2 "$rtc" "$days"
+        done
+    done
+    [ "$1" = - ] || tried x4 $(($1 - 3)) 0 1 "$days"
+    [ "$3" = - ] || tried x4 2 2 1 "$days"
+    tried x4 0 1 1 "$days"
+    tried x6 $(($2 - 1)) 1 1 "$days"
+done
+
 for hours in 23 24 25; do
     for at in 0 11 $((hours - 1)); do
         for digit in 1 2; do

@@ -135,3 +135,18 @@ is_answer() {
             exit i != n + 1
         }' "$1" "$2"
 }
+
+# --- A day's sheet as it is stored, with its own header alone.
+
+# Standard input as `day` reads it, where both neighbours are lacking, without the empty lines for them.
+stored() {
+    sed 1d | sed '1,/^$/{/^$/{n;/^$/d;};}'
+}
+
+# The stored sheet $1 as `day` reads it, if both neighbours are lacking.
+framed() {
+    echo
+    sed '/^$/q' "$1"
+    echo
+    sed '1,/^$/d' "$1"
+}

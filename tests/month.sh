@@ -5,10 +5,10 @@
 #   sh month.sh PATH-OF-HOUR PATH-OF-DAY PATH-OF-IMPORT PATH-OF-LINE PATH-OF-UP PATH-OF-DOWN
 #
 # Each way of running them, on this machine and by GNU parallel, goes through
-# corrected and added sheets, answers that are cut or gone, runs that are killed
-# and programs that are missing or fail. Where GNU parallel is not to be found,
-# its cases are skipped, and that is said. The last line counts what passed and
-# what failed; the status is 1 if anything failed.
+# corrected and added sheets, days and their neighbours, answers that are cut or
+# gone, runs that are killed and programs that are missing or fail. Where GNU
+# parallel is not to be found, its cases are skipped, and that is said. The last
+# line counts what passed and what failed; the status is 1 if anything failed.
 . "$(dirname -- "$0")/common.sh"
 . "$(dirname -- "$0")/user.sh"
 
@@ -51,29 +51,39 @@ rm -rf "$clone"
 bin=$(HOME=$home && eval "$(echo "$install" | grep '^PATH=')" && echo "${PATH%%:*}")
 cp -p "$bin/day" "$work/day" || exit 2
 
-# A sheet of the user's, and the answer that it has to have in the end.
+# A sheet of the user's, and the answer that it has to have in the end, if it has no neighbours.
 put() {
-    cp "$samples/day/$2.txt" "$user/sheets/$1.txt"
+    stored <"$samples/day/$2.txt" >"$user/sheets/$1.txt"
     cp "$samples/day/$2.out" "$work/want/$1"
 }
 
-# Three sheets without answers.
-fresh() {
+# A folder without sheets.
+no_sheets() {
     rm -rf "$user/sheets" "$work/want"
-    mkdir -p "$user/sheets/other units" "$work/want/other units"
-    put 4711-01 paid
-    put 4711-02 header-range
-    put "other units/it's 12" mixed
+    mkdir -p "$user/sheets" "$work/want"
+}
+
+# Three sheets without answers, none of them a neighbour of another.
+fresh() {
+    no_sheets
+    mkdir "$user/sheets/other units" "$work/want/other units"
+    put 4711-2026-05-01 paid
+    put 4711-2026-05-11 header-range
+    put "other units/it's 12-2026-05-02" mixed
 }
 
 # --- How a run is judged.
 
-# Each answer is right, and nothing else lies about.
+# Each answer is right and has its neighbours' headers beside it, and nothing else lies about.
 all_answered() {
     (cd "$work/want" && find . -type f) | while IFS= read -r name; do
         cmp -s "$work/want/$name" "$user/sheets/$name.out" || echo "$name has not its answer"
+        [ -f "$user/sheets/$name.days" ] || echo "$name has no .days"
     done
-    find "$user/sheets" -type f ! -name '*.txt' ! -name '*.out' | sed 's/$/ is left/'
+    find "$user/sheets" -type f ! -name '*.txt' ! -name '*.out' ! -name '*.days' | sed 's/$/ is left/'
+    find "$user/sheets" -type f -name '*.days' | while IFS= read -r days; do
+        [ -f "${days%.days}.out" ] || echo "$days is left"
+    done
 }
 
 # The run has the status $2; it has settled the sheets $3.. and no other.
@@ -119,6 +129,7 @@ not_settled() {
 }
 
 . "$root/tests/month/cases.sh"
+. "$root/tests/month/neighbours.sh"
 
 # --- The ways.
 
@@ -146,5 +157,7 @@ else
 fi
 
 about=
+way=$here
+neighbours_once
 other_commands
 finish

@@ -1,15 +1,18 @@
 #!/bin/sh
 # The samples, and the page that explains them. Each samples/PROGRAM/NAME.txt
 # goes through its program, and what is printed has to be NAME.out, byte for
-# byte. Then docs/answers.md: what it quotes has to stand in the samples.
+# byte. Each stored sheet samples/sheets/NAME.txt goes through `day` with its
+# neighbours in that folder, by README's command. Then docs/answers.md: what it
+# quotes has to stand in the samples.
 #
 #   sh samples.sh PATH-OF-HOUR PATH-OF-DAY PATH-OF-IMPORT PATH-OF-LINE
 #
 # What the page quotes, a sample being named as in hour/reach:
 #   <!-- sample: NAME [H] --> stands before a quoted block. In it `L | text` is
-#       line L of the sample's first block, or of hour H's (`...` leaves out the
-#       rest), a bar alone is a remark, and the other lines are the printed
-#       answer, each with a remark of ours behind two spaces; `...` alone
+#       line L of the sample's first block, which is its own header in a text for
+#       `day`, or of hour H's, or of header N's with header=N for H (`...` leaves
+#       out the rest), a bar alone is a remark, and the other lines are the
+#       printed answer, each with a remark of ours behind two spaces; `...` alone
 #       leaves out lines of it.
 #   <!-- column: NAME --> stands before a table whose first cells are the answer.
 #   A table row that begins with a NAME has the answer's last line in its second
@@ -17,9 +20,9 @@
 # Every name is a sample's, and every sample is named. The last line counts what
 # passed and what failed; the status is 1 if anything failed.
 . "$(dirname -- "$0")/common.sh"
+. "$(dirname -- "$0")/user.sh"
 
 four_programs samples "$@"
-root=$(dirname -- "$0")/..
 page=$root/docs/answers.md
 
 # --- Each sample through its program.
@@ -38,6 +41,33 @@ for name in hour day import line; do
     for said in "$root/samples/$name"/*.out; do
         [ -f "${said%.out}.txt" ] || fail "$name/$(basename "$said" .out): no .txt"
     done
+done
+
+# --- Each stored sheet between its neighbours, which are the sheets before and behind it in its folder.
+
+# README's command, for the sheet $own between $before and $after. `echo` stands for the `sed` of one that is lacking.
+# shellcheck disable=SC2016
+neighbours_command() {
+    lacking=
+    [ "$before" = - ] && lacking='s|sed [^ ]* "$before"|echo|;'
+    [ "$after" = - ] && lacking=$lacking's|sed [^ ]* "$after"|echo|;'
+    commands "A day between its neighbours" | sed -n '/^{/,/^}/p' |
+        sed 's|samples/sheets/4711-2026-10-31.txt|"$before"|; s|samples/sheets/4711-2026-11-01.txt|"$own"|
+            s|samples/sheets/4711-2026-11-02.txt|"$after"|; s|target/bin/day|"$day"|;'"$lacking"
+}
+
+set -- - "$root"/samples/sheets/*.txt -
+while [ $# -ge 3 ]; do
+    before=$1
+    own=$2
+    after=$3
+    shift
+    neighbours_command >"$work/command"
+    (. "$work/command") >"$work/got" 2>"$work/err"
+    answered "sheets/$(basename "$own" .txt)" "${own%.txt}.out"
+done
+for said in "$root"/samples/sheets/*.out; do
+    [ -f "${said%.out}.txt" ] || fail "sheets/$(basename "$said" .out): no .txt"
 done
 
 # --- What the page quotes: for each quotation a line in the list, a file of
@@ -77,12 +107,12 @@ mark == "column:" {
     if (inside) finish()
     next
 }
-/^\| `(hour|day|import|line)\// { start("last:", cell(1), "-"); answer(cell(2)); finish(); next }
+/^\| `(hour|day|import|line|sheets)\// { start("last:", cell(1), "-"); answer(cell(2)); finish(); next }
 # "prints" may stand at a line end, so a line is read together with the one before.
 {
     both = before " " $0
     before = $0
-    while (match(both, /`(hour|day|import|line)\/[a-z0-9-]+` prints `[^`]+`/)) {
+    while (match(both, /`(hour|day|import|line|sheets)\/[a-z0-9-]+` prints `[^`]+`/)) {
         split(substr(both, RSTART, RLENGTH), codes, "`")
         both = before = substr(both, RSTART + RLENGTH)
         start("last:", codes[2], "-")
@@ -93,13 +123,23 @@ mark == "column:" {
 END { if (mark != "") print "the page: a quotation without an end" }' "$page" >"$work/open"
 [ -s "$work/open" ] && fail "$(cat "$work/open")"
 
-# The first line of a quotation that does not stand at its place in the sample.
+# The first line of a quotation that does not stand at its place in the sample. Each header and block ends with an empty line, and one that is lacking
+# is an empty line: a text for `day` has three before its hour 0, a text for `hour` none, and others have one.
 misquoted() {
-    awk -v block="$3" 'BEGIN { block = block == "-" ? 0 : block + 1 }
+    case $4 in
+        day/*) heads=3 ;;
+        hour/*) heads=0 ;;
+        *) heads=1 ;;
+    esac
+    awk -v block="$3" -v heads="$heads" '
+        BEGIN {
+            if (block == "-") block = heads == 3
+            else if (!sub(/^header=/, "", block)) block += heads
+        }
         NR == FNR { want[$1 + 0] = substr($0, index($0, "\t") + 1); next }
         $0 == "" { at++; line = 0; next }
         { line++ }
-        at + 0 == block && line in want {
+        at + 0 == block + 0 && line in want {
             quote = want[line]
             same = sub(/ \.\.\.$/, " ", quote) ? index($0, quote) == 1 : $0 == quote
             if (same) delete want[line]
@@ -116,7 +156,7 @@ while read -r n kind name block; do
         fail "the page: nothing quoted for $name"
     fi
     if [ -s "$work/lines.$n" ]; then
-        wrong=$(misquoted "$work/lines.$n" "$root/samples/$name.txt" "$block")
+        wrong=$(misquoted "$work/lines.$n" "$root/samples/$name.txt" "$block" "$name")
         if [ -n "$wrong" ]; then fail "the page: $name, $wrong"; else pass; fi
     fi
     if [ -s "$work/answer.$n" ]; then
@@ -134,12 +174,12 @@ done <"$work/list"
 
 # --- Every name on the page is a sample's, and every sample is named there.
 awk '{
-    while (match($0, /`(hour|day|import|line)\/[a-z0-9-]+`/)) {
+    while (match($0, /`(hour|day|import|line|sheets)\/[a-z0-9-]+`/)) {
         print substr($0, RSTART + 1, RLENGTH - 2)
         $0 = substr($0, RSTART + RLENGTH)
     }
 }' "$page" | sort -u >"$work/named"
-(cd "$root/samples" && ls hour/*.txt day/*.txt import/*.txt line/*.txt) | sed 's/\.txt$//' | sort -u >"$work/there"
+(cd "$root/samples" && ls hour/*.txt day/*.txt import/*.txt line/*.txt sheets/*.txt) | sed 's/\.txt$//' | sort -u >"$work/there"
 for name in $(comm -23 "$work/named" "$work/there"); do
     fail "the page names $name, which is no sample"
 done

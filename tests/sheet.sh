@@ -8,13 +8,15 @@
 # What the page says of itself, each before a fenced block or a table:
 #   <!-- listing: NAME -->                    a text, or a part of one
 #   <!-- answer: PROGRAM NAME [NAME] -->      what is printed for it: for the
-#       first name alone, or for it and the second for each hour of its day.
-#       `...` stands for any lines.
+#       first name alone, or for it and the second for each hour of its day. A
+#       day sheet has no neighbours then, but where its listing has three
+#       headers. `...` stands for any lines.
 #   <!-- keys: NAME.. lines A to B, keys K.. -->   the next rows are these keys of
 #       the reader, and stand on these lines of each listing. K is a kind of line,
 #       for all of its keys in their order, or one key of it, KIND.N; K=L is a row
 #       for both. A key may have its row in more than one table.
-# What it says of the count of hours is tried at the end, for each of the three.
+# What it says of the count of hours is tried at the end, for each of the three,
+# and what it says of the three headers of `day`.
 # The last line counts what passed and what failed; the status is 1 if anything
 # failed.
 . "$(dirname -- "$0")/common.sh"
@@ -53,9 +55,9 @@ table && !/^\|/ { table = 0 }' "$page"
 
 # --- Texts of the listings.
 
-# The hours of the day that a part begins.
+# The hours of the day that a part begins. Of three headers the second is the day's own.
 hours_of() {
-    said=$(sed -n '/^$/q; s/^\(.* \)\{0,1\}hours=\(2[345]\)$/\2/p' "$1")
+    said=$(case $1 in *.three) sed '1,/^$/d' "$1" ;; *) cat "$1" ;; esac | sed -n '/^$/q; s/^\(.* \)\{0,1\}hours=\(2[345]\)$/\2/p')
     echo "${said:-24}"
 }
 
@@ -70,10 +72,22 @@ with_blocks() {
     }' "$2"
 }
 
-# Runs the program of this name on $work/text.
+# What `day` reads for the stored sheet $2 with the headers of the stored sheets $1 and $3 beside its own; - is a neighbour that is lacking.
+between() {
+    for sheet in "$1" "$2" "$3"; do
+        if [ "$sheet" = - ]; then echo; else sed '/^$/q' "$sheet"; fi
+    done
+    sed '1,/^$/d' "$2"
+}
+
+# Runs the program of this name on $work/text. For `day` that is a stored sheet, without neighbours, or it begins with the listing of three headers.
 run() {
     named "$1"
-    within 20 "$program" <"$work/text" >"$work/got" 2>"$work/err"
+    case $1,${2-} in
+        day,three | hour,* | import,* | line,*) cp "$work/text" "$work/input" ;;
+        day,*) between - "$work/text" - >"$work/input" ;;
+    esac
+    within 20 "$program" <"$work/input" >"$work/got" 2>"$work/err"
 }
 
 while read -r n program first blocks; do
@@ -82,7 +96,7 @@ while read -r n program first blocks; do
     else
         cp "$work/listing.$first" "$work/text"
     fi
-    run "$program"
+    run "$program" "$first"
     if is_answer "$work/answer.$n" "$work/got"; then
         pass
     else
@@ -133,6 +147,8 @@ first_of() {
 # The number of the check that refuses line $2 of the listing $1, if it is its
 # first block or its header, with key $3 at $4; 0 where none refuses that line.
 refusal_of() {
+    end=
+    case $1 in form-*) end=' header=1' ;; esac
     changed "$@" >"$work/changed"
     case $1 in
         form-*) with_blocks "$work/changed" "$work/listing.block" >"$work/text" && run day ;;
@@ -142,7 +158,7 @@ refusal_of() {
         line*) with_blocks "$work/changed" "$work/listing.transfer" >"$work/text" && run line ;;
         transfer) first_of line-25 transfer && run line ;;
     esac
-    sed -n "s/^\(hour=0 \)\{0,1\}refused=\([0-9]*\) .*at=$2\$/\2/p; 1q" "$work/got" | grep . || echo 0
+    sed -n "s/^\(hour=0 \)\{0,1\}refused=\([0-9]*\) .*at=$2$end\$/\2/p; 1q" "$work/got" | grep . || echo 0
 }
 
 # With key $3 at $4 line $2 is refused by one of the checks $5, or by none.
@@ -223,5 +239,6 @@ while IFS=$tab read -r place unit range; do
 done <"$work/table"
 
 . "$root/tests/sheet/counts.sh"
+. "$root/tests/sheet/headers.sh"
 
 finish

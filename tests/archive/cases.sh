@@ -2,11 +2,11 @@
 
 # --- Three years, up and back.
 
-# What `day` prints for some 60 of the folder's sheets.
+# What `day` prints for some 60 of the folder's sheets, alone.
 answers() {
     find "$1" -name '*.txt' | sort | awk 'NR % 18 == 1' | while IFS= read -r sheet; do
         echo "${sheet#"$1"}"
-        "$day" <"$sheet"
+        framed "$sheet" | "$day"
     done
 }
 
@@ -48,22 +48,33 @@ again() {
     as_user "$down"
     left "down once more" 0 old 0
     # Some of each form.
-    cp -p "$work/new/4711-02.txt" "$user/sheets"
+    cp -p "$work/new/4711-2026-05-02.txt" "$user/sheets"
     as_user "$up"
     left "up, one of them there already" 0 new 2
-    cp -p "$work/old/4711-02.txt" "$user/sheets"
+    cp -p "$work/old/4711-2026-05-02.txt" "$user/sheets"
     as_user "$down"
     left "down, one of them there already" 0 old 2
 }
 
-# The answers stay: nothing is settled anew.
+# The answers stay: none is made anew but of a day whose neighbour has moved, since its header is another then; and that one is as it was.
 settled_stays() {
     few
     as_user "settle day sheets"
     [ "$(wc -l <"$work/out")" -eq 3 ] && pass || fail "settled: $(cat "$work/err")"
+    rm -rf "$work/answers"
+    mkdir "$work/answers"
+    cp "$user"/sheets/*.out "$work/answers"
+    printf '%s\n' sheets/4711-2026-05-01.txt sheets/4711-2026-05-02.txt >"$work/want"
     for command in "$up" "$down"; do
-        as_user "$command && settle day sheets >'$work/settled'"
-        [ "$status" -eq 0 ] && [ ! -s "$work/settled" ] && pass || fail "$command: settled anew: $(cat "$work/settled" "$work/err")"
+        as_user "$command"
+        [ "$status" -eq 0 ] && pass || fail "$command: $(cat "$work/err")"
+        as_user "settle day sheets"
+        [ "$status" -eq 0 ] && sort "$work/out" | cmp -s - "$work/want" && pass || fail "$command: settled anew: $(cat "$work/out" "$work/err")"
+        for answer in "$work"/answers/*; do
+            cmp -s "$answer" "$user/sheets/${answer##*/}" && pass || fail "$command: ${answer##*/} is another"
+        done
+        as_user "settle day sheets"
+        [ "$status" -eq 0 ] && [ ! -s "$work/out" ] && pass || fail "$command: settled once more: $(cat "$work/out" "$work/err")"
     done
 }
 
@@ -157,9 +168,9 @@ at_once() {
 leftovers() {
     few
     as_user "$up"
-    for name in 4711-01.txt.moving.77 4711-01.txt.new 4711-01.out.new.77; do echo left >"$user/sheets/$name"; done
+    for name in 4711-2026-05-01.txt.moving.77 4711-2026-05-01.txt.new 4711-2026-05-01.out.new.77; do echo left >"$user/sheets/$name"; done
     as_user "$down"
-    [ -f "$user/sheets/4711-01.txt.moving.77" ] && pass || fail "what may be of another run is gone"
+    [ -f "$user/sheets/4711-2026-05-01.txt.moving.77" ] && pass || fail "what may be of another run is gone"
     cat >"$work/slow/find" <<END
 #!/bin/sh
 for word; do
@@ -172,8 +183,8 @@ END
     chmod +x "$work/slow/find"
     as_user "PATH=$work/slow:\$PATH; $up"
     restore
-    [ ! -e "$user/sheets/4711-01.txt.moving.77" ] && pass || fail "what a killed run left is still there"
-    rm "$user/sheets/4711-01.txt.new" "$user/sheets/4711-01.out.new.77" && pass || fail "what is no leftover is gone"
+    [ ! -e "$user/sheets/4711-2026-05-01.txt.moving.77" ] && pass || fail "what a killed run left is still there"
+    rm "$user/sheets/4711-2026-05-01.txt.new" "$user/sheets/4711-2026-05-01.out.new.77" && pass || fail "what is no leftover is gone"
     left "with leftovers" 0 new 3
 }
 
@@ -201,21 +212,24 @@ refusals() {
     few
     : >"$work/refusals"
     for name in header-form header-open header-range hours-form-1; do
-        stays "$name" <"$samples/day/$name.txt"
-        refused "$name" "$(cat "$samples/day/$name.out")"
+        stored <"$samples/day/$name.txt" | stays "$name"
+        refused "$name" "$(sed 's/ header=1$//' "$samples/day/$name.out")"
     done
-    sed '1s/1/3/' "$samples/day/paid.txt" | stays form-3
+    stored <"$samples/day/paid.txt" | sed '1s/1/3/' | stays form-3
     refused form-3 'refused=2 at=1'
     stays empty </dev/null
     refused empty 'refused=1 at=1'
     head -c 5000 "$bin/up" | stays program
     refused program 'refused=1 at=1'
     # Of the asked form in its first line and nowhere else.
-    stays hours-missing <"$samples/day/hours-missing.txt"
-    refused hours-missing "$(cat "$samples/day/hours-missing.out")"
+    stored <"$samples/day/hours-missing.txt" | stays hours-missing
+    refused hours-missing "$(sed 's/ header=1$//' "$samples/day/hours-missing.out")"
+    # What `day` reads is no stored sheet.
+    stays framed <"$samples/day/paid.txt"
+    refused framed 'refused=1 at=1'
     # These have the asked form.
-    stays autumn <"$samples/day/autumn.txt"
-    stays hours-22 <"$samples/day/hours-22.txt"
+    stored <"$samples/day/autumn.txt" | stays autumn
+    stored <"$samples/day/hours-22.txt" | stays hours-22
     marks >"$work/marks"
     as_user "$up"
     left "up, refused sheets" 1 new 3
@@ -226,16 +240,16 @@ refusals() {
     few
     : >"$work/refusals"
     for name in spring autumn; do
-        stays "$name" <"$samples/day/$name.txt"
+        stored <"$samples/day/$name.txt" | stays "$name"
         refused "$name" 'refused=9 at=2'
     done
     for name in hours-22 hours-missing hours-rows; do
-        stays "$name" <"$samples/day/$name.txt"
-        refused "$name" "$(cat "$samples/day/$name.out")"
+        stored <"$samples/day/$name.txt" | stays "$name"
+        refused "$name" "$(sed 's/ header=1$//' "$samples/day/$name.out")"
     done
-    sed '3s/=.*/=0/' "$samples/day/autumn.txt" | stays autumn-0
+    stored <"$samples/day/autumn.txt" | sed '3s/=.*/=0/' | stays autumn-0
     refused autumn-0 'refused=2 at=3'
-    stays header-range <"$samples/day/header-range.txt"
+    stored <"$samples/day/header-range.txt" | stays header-range
     give new
     marks >"$work/marks"
     as_user "$down"
@@ -265,19 +279,19 @@ programs_fail() {
         "'$work/up' | sed 20d" "'$work/up' | tr 7 8" "'$work/up' | sed 's/^hours=24/hours=23/'" "'$work/up' | sed 1s/2/1/"; do
         replace up "$fault"
         as_user "$up"
-        not_moved "up that does $fault" "$user/sheets/4711-01.txt: "
+        not_moved "up that does $fault" "$user/sheets/4711-2026-05-01.txt: "
     done
     restore
     # Without the way back nothing is moved.
     for fault in 'exit 0' 'exit 1' "'$work/down' | head -c -1" "'$work/down' | head -c 700; kill -9 \$\$" cat; do
         replace down "$fault"
         as_user "$up"
-        not_moved "down that does $fault" "$user/sheets/4711-01.txt: "
+        not_moved "down that does $fault" "$user/sheets/4711-2026-05-01.txt: "
     done
     # Two that agree, and move nothing.
     replace up cat
     as_user "$up"
-    not_moved "up and down that do cat" "$user/sheets/4711-01.txt: "
+    not_moved "up and down that do cat" "$user/sheets/4711-2026-05-01.txt: "
     restore
     # One that fails once leaves the others.
     replace up "if mkdir '$work/once' 2>/dev/null; then kill -9 \$\$; fi; exec '$work/up'"
@@ -290,14 +304,14 @@ programs_fail() {
 
 # The sheet changes when the program $1 has read, in its file or by another file in its place: what it is then is not lost.
 sheet_changes() {
-    cp "$samples/day/surplus.txt" "$work/corrected"
-    for change in "cat '$work/corrected' >'$user/sheets/4711-01.txt'" \
-        "cp '$work/corrected' '$user/sheets/new' && mv '$user/sheets/new' '$user/sheets/4711-01.txt'"; do
+    stored <"$samples/day/surplus.txt" >"$work/corrected"
+    for change in "cat '$work/corrected' >'$user/sheets/4711-2026-05-01.txt'" \
+        "cp '$work/corrected' '$user/sheets/new' && mv '$user/sheets/new' '$user/sheets/4711-2026-05-01.txt'"; do
         one
         replace "$1" "cat >'$work/read'; $change; exec '$work/$1' <'$work/read'"
         as_user "$up"
-        put 4711-01 <"$work/corrected"
-        not_moved "a sheet that changes in $1" "$user/sheets/4711-01.txt: "
+        put 4711-2026-05-01 <"$work/corrected"
+        not_moved "a sheet that changes in $1" "$user/sheets/4711-2026-05-01.txt: "
         restore
         as_user "$up"
         left "a sheet that changed in $1" 0 new 1
@@ -309,10 +323,10 @@ sheet_changes() {
 names() {
     few
     for name in ' ' '-n' '*' "it's" 'a  b' '$(x)' 'back\slash' "$(printf 'two\nlines')" '.hidden' 'é'; do
-        put "$name" <"$samples/day/mixed.txt"
+        stored <"$samples/day/mixed.txt" | put "$name"
     done
     mkdir -p "$work/old/-r/$(printf 'a\nb').txt" "$work/new/-r/$(printf 'a\nb').txt"
-    put "-r/$(printf 'a\nb').txt/x" <"$samples/day/paid.txt"
+    stored <"$samples/day/paid.txt" | put "-r/$(printf 'a\nb').txt/x"
     echo 'no sheet' | tee "$work/old/notes" >"$work/new/notes"
     give old
     as_user "$up"
@@ -324,17 +338,17 @@ names() {
 links() {
     few
     mkdir -p "$user/elsewhere/folder"
-    for name in real.sheet folder/real.txt; do cp "$work/old/4711-01.txt" "$user/elsewhere/$name"; done
+    for name in real.sheet folder/real.txt; do cp "$work/old/4711-2026-05-01.txt" "$user/elsewhere/$name"; done
     ln -s ../elsewhere/real.sheet "$user/sheets/link.txt"
     ln -s ../elsewhere/folder "$user/sheets/folder"
-    ln -s 4711-02.txt "$user/sheets/newest.txt"
+    ln -s 4711-2026-05-02.txt "$user/sheets/newest.txt"
     ln -s absent "$user/sheets/absent.txt"
-    ln "$user/sheets/4711-02.txt" "$user/sheets/same.txt"
+    ln "$user/sheets/4711-2026-05-02.txt" "$user/sheets/same.txt"
     for way in up:new down:old; do
         as_user "archive ${way%:*} sheets"
         [ "$status" -eq 0 ] && [ "$(wc -l <"$work/out")" -eq 6 ] && grep -q ': 6 sheets' "$work/err" && pass ||
             fail "links, $way: $(cat "$work/err")"
-        for name in 4711-01:link 4711-01:folder/real 4711-02:newest 4711-02:same; do
+        for name in 4711-2026-05-01:link 4711-2026-05-01:folder/real 4711-2026-05-02:newest 4711-2026-05-02:same; do
             cmp -s "$work/${way#*:}/${name%:*}.txt" "$user/sheets/${name#*:}.txt" && pass || fail "links, $way: $name"
         done
         for name in link.txt newest.txt folder; do [ -L "$user/sheets/$name" ] && pass || fail "links, $way: $name is no link"; done
@@ -350,14 +364,15 @@ links() {
 # A file may have 4,096 bytes and no more, as on a disk that is full: of these sheets one can be copied and not be made longer.
 disk_full() {
     few
-    head -c 4096 "$samples/day/paid.txt" | put 4711-01
-    head -c 3000 "$samples/day/paid.txt" | put 4711-02
-    head -c 5000 "$samples/day/paid.txt" | put "other units/it's 12"
+    stored <"$samples/day/paid.txt" >"$work/paid"
+    head -c 4096 "$work/paid" | put 4711-2026-05-01
+    head -c 3000 "$work/paid" | put 4711-2026-05-02
+    head -c 5000 "$work/paid" | put "other units/it's 12-2026-05-02"
     for signal in '' "trap '' XFSZ; "; do
         give old
         as_user "${signal}ulimit -f 8; $up"
         [ "$status" -eq 1 ] && [ "$(wc -l <"$work/out")" -eq 1 ] && pass || fail "a full disk: status $status, $(cat "$work/out")"
-        cmp -s "$work/new/4711-02.txt" "$user/sheets/4711-02.txt" && is_whole && [ "$(alike old)" -eq 2 ] && pass ||
+        cmp -s "$work/new/4711-2026-05-02.txt" "$user/sheets/4711-2026-05-02.txt" && is_whole && [ "$(alike old)" -eq 2 ] && pass ||
             fail "a full disk: a sheet is not whole"
         find "$user/sheets" -name '*.moving.*' | grep -q . && fail "a full disk: something is left" || pass
         as_user "$up"
@@ -374,21 +389,21 @@ forbidden() {
     few
     chmod 555 "$user/sheets/other units"
     as_user "$up"
-    [ "$status" -eq 1 ] && grep -q -F "it's 12.txt: it cannot be moved" "$work/err" && is_whole && [ "$(alike new)" -eq 2 ] && pass ||
+    [ "$status" -eq 1 ] && grep -q -F "it's 12-2026-05-02.txt: it cannot be moved" "$work/err" && is_whole && [ "$(alike new)" -eq 2 ] && pass ||
         fail "a folder that may not be written: status $status, $(cat "$work/err")"
     chmod 000 "$user/sheets/other units"
     as_user "$up"
     not_tried "a folder that may not be read" "cannot look through sheets"
     chmod 755 "$user/sheets/other units"
     give old
-    chmod 000 "$user/sheets/4711-01.txt"
+    chmod 000 "$user/sheets/4711-2026-05-01.txt"
     as_user "$up"
-    chmod 644 "$user/sheets/4711-01.txt"
-    [ "$status" -eq 1 ] && grep -q -F '4711-01.txt: it cannot be moved' "$work/err" && is_whole && [ "$(alike new)" -eq 2 ] && pass ||
+    chmod 644 "$user/sheets/4711-2026-05-01.txt"
+    [ "$status" -eq 1 ] && grep -q -F '4711-2026-05-01.txt: it cannot be moved' "$work/err" && is_whole && [ "$(alike new)" -eq 2 ] && pass ||
         fail "a sheet that may not be read: status $status, $(cat "$work/err")"
     # It is not written, but gives its place to another.
     give old
-    chmod 444 "$user/sheets/4711-01.txt"
+    chmod 444 "$user/sheets/4711-2026-05-01.txt"
     marks >"$work/marks"
     as_user "$up"
     left "a sheet that may not be written" 0 new 3

@@ -16,16 +16,16 @@ give() {
 one() {
     rm -rf "$work/old" "$work/new"
     mkdir -p "$work/old" "$work/new"
-    put 4711-01 <"$samples/day/paid.txt"
+    stored <"$samples/day/paid.txt" | put 4711-2026-05-01
     give old
 }
 
-# Three sheets.
+# Three sheets: two days of one unit, and one of another.
 few() {
     one
     mkdir "$work/old/other units" "$work/new/other units"
-    put 4711-02 <"$samples/day/mixed.txt"
-    put "other units/it's 12" <"$samples/day/short.txt"
+    stored <"$samples/day/mixed.txt" | put 4711-2026-05-02
+    stored <"$samples/day/short.txt" | put "other units/it's 12-2026-05-02"
     give old
 }
 

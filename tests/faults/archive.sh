@@ -5,7 +5,10 @@
 # --- The sheets: form.1 and form.2 are the same one in both forms, head.N are
 # their headers with the empty line, and blocks is what follows.
 make_forms() {
-    cp "$here/../samples/day/paid.txt" "$work/form.1" || exit 2
+    heads=1
+    own=0
+    which=
+    stored <"$here/../samples/day/paid.txt" >"$work/form.1" || exit 2
     { printf 'form=2\nhours=24\n'; sed 1d "$work/form.1"; } >"$work/form.2"
     for n in 1 2; do
         sed '/^$/q' "$work/form.$n" >"$work/head.$n"
@@ -192,7 +195,7 @@ END
     refused "a header without its empty line, endless" "refused=1 at=$(wc -l <"$work/head.$from")"
     # Days of another count cannot go down; that comes last.
     for hours in 23 25; do
-        of_hours "$here/../samples/day/paid.txt" "$hours" >"$work/counted"
+        of_hours "$work/form.1" "$hours" >"$work/counted"
         case $from in
             1) answer="refused=2 at=1" other="refused=2 at=1" ;;
             2) answer="refused=9 at=2" other="refused=2 at=3" ;;

@@ -2,6 +2,10 @@
 
 . "$here/faults/hours.sh"
 
+heads=1
+own=0
+which=
+
 sheet_cases "$here/../samples/line/paid.txt"
 counted_cases "$here/../samples/line/paid.txt"
 long_rows line mark mark mark

@@ -79,13 +79,18 @@ lengthen() {
     first "$work/long" $(($2 - 1)) >"$work/open"
 }
 
-# A piece of so many bytes, lengthened like this, at each kind of place.
-edge() {
+# The header of so many bytes, lengthened like this.
+header_edge() {
     like="$1 bytes, $2"
     lengthen 0 "$1" "$2"
-    try "$like: a header" long lf after.0
-    try "$like: a header and the end" long
-    try "$like: a header without its last LF" open
+    try "$like: a header" before.0 long lf after.0
+    try "$like: a header and the end" before.0 long
+    try "$like: a header without its last LF" before.0 open
+}
+
+# A piece of so many bytes, at each kind of place.
+edge() {
+    header_edge "$1" "$2"
     lengthen 1 "$1" "$2"
     try "$like: block 1" before.1 long lf after.1
     lengthen "$middle" "$1" "$2"
@@ -125,10 +130,10 @@ crowded() {
         done >"$work/blocks"
         try "blocks of $length bytes, the last one good" before.1 blocks "good.$hours"
         try "blocks of $length bytes, and an LF" before.1 blocks long lf lf
-        try "pieces of $length bytes, and an LF" header lf blocks long lf lf
+        try "pieces of $length bytes, and an LF" before.0 header lf heads blocks long lf lf
     done
     if [ "$frugal" = yes ]; then
-        { (cd "$work" && cat header lf blocks long lf); yes; } 2>/dev/null | run 10
+        { (cd "$work" && cat before.0 header lf heads blocks long lf); yes; } 2>/dev/null | run 10
         answered "pieces of $length bytes, and no end"
     fi
 }
@@ -161,7 +166,7 @@ form_at() {
 # at its far end.
 long_row() {
     under 22
-    echo "refused=2 at=2" >"$work/want"
+    echo "refused=2 at=2$which" >"$work/want"
     megabytes "$2" 0 | with_row "$1" '' | in_place_of 0 | run 120
     answered "a row of $2 MB under 22 hours"
     form_at "$1"
@@ -173,7 +178,7 @@ long_row() {
 # row.
 long_rows() {
     long_row "$3" 50
-    { sed "/^$3=/,\$d" "$work/header"; printf '%s=' "$3"; fifty 0; } | run 60
+    { cat "$work/before.0"; sed "/^$3=/,\$d" "$work/header"; printf '%s=' "$3"; fifty 0; } | run 60
     answered "a row of 50 MB up to the end under 22 hours"
     under 25
     fifty 0 | with_row "$3" '' | in_place_of 0 | run 60
@@ -184,11 +189,11 @@ long_rows() {
     fi
 
     under -24
-    echo "refused=2 at=2" >"$work/want"
+    echo "refused=2 at=2$which" >"$work/want"
     fifty 9 | with_row "$2" '' | in_place_of 0 | run 60
     answered "a row of 50 MB of nines under -24 hours"
     refused_at - $(($(wc -l <"$work/good.0") + 1))
-    { fifty 1 | with_row "$4" ''; cat "$work/after.0"; } | run 60
+    { cat "$work/before.0"; fifty 1 | with_row "$4" ''; sed '/./,$!d' "$work/after.0"; } | run 60
     answered "a row of 50 MB, and no empty line behind it"
     for key in "$1" hours; do
         form_at "$key"

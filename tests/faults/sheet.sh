@@ -3,25 +3,30 @@
 # faults.sh. day.sh, import.sh and line.sh say first how long a block is and how
 # the answers look:
 #   most_lines             the lines of the longest good block
+#   heads, own             how many headers stand before the blocks, and which of
+#                          them is piece 0, counted from 0
+#   which                  what then ends the line of a refused header
 #   refused_at HOUR LINE   writes the sample's answer to $work/want, once that
 #                          hour is refused for its form; the header's hour is -
 #   withheld               the same, once bytes follow the last block
 
 # Four pieces give their places to others: the header is piece 0, the blocks are
-# 1 to $hours. Block 6 is hour 5, which is paid and has paid hours behind it.
+# 1 to $hours. Block 6 is hour 5, which is paid and has paid hours behind it. A
+# header that is lacking is an empty line, as if it had no other.
 middle=6
 
 # The sample $1 as one that says its hours, $2 of them: of its 24 blocks the last
 # one is left out, or the middle one stands behind it once more.
 of_hours() {
-    awk -v hours="$2" -v middle="$middle" '
+    awk -v hours="$2" -v middle="$middle" -v heads="$heads" -v own="$own" '
+        BEGIN { at = 1 - heads; own += at }
         $0 == "" { if (++at > hours) exit; print; next }
-        !at && /^form=/ { print "form=2"; $0 = "hours=" hours }
-        !at && /^import=/ { $0 = $0 " hours=" hours }
-        !at && /^hours=/ { $0 = "hours=" hours }
-        !at && /^cat=/ { $0 = substr($0 "1", 1, hours + 4) }
-        !at && /^mark=/ { $0 = substr($0 "1", 1, hours + 5) }
-        !at && /^x/ { $0 = substr($0 "0", 1, hours + 3) }
+        at == own && /^form=/ { print "form=2"; $0 = "hours=" hours }
+        at == own && /^import=/ { $0 = $0 " hours=" hours }
+        at == own && /^hours=/ { $0 = "hours=" hours }
+        at == own && /^cat=/ { $0 = substr($0 "1", 1, hours + 4) }
+        at == own && /^mark=/ { $0 = substr($0 "1", 1, hours + 5) }
+        at == own && /^x/ { $0 = substr($0 "0", 1, hours + 3) }
         at == middle { again = again $0 "\n" }
         { print }
         END { if (at < hours) { sub(/^hour=[0-9]+/, "hour=24", again); printf "\n%s", again } }' "$1"
@@ -29,7 +34,8 @@ of_hours() {
 
 # The sample $1, of $2 hours, in pieces. $work/closed is the sample with an empty
 # line behind each piece, good.K the lines of piece K, before.K and after.K what
-# stands before it and behind its empty line.
+# stands before it and behind its empty line. $work/heads has the headers behind
+# piece 0.
 cut_up() {
     hours=$2
     { cat "$1"; echo; } >"$work/closed"
@@ -40,12 +46,14 @@ cut_up() {
     for k in 0 1 "$middle" "$hours"; do
         : >"$work/before.$k"
         : >"$work/after.$k"
-        awk -v k="$k" -v dir="$work" '
-            at + 0 < k { print >(dir "/before." k) }
-            at + 0 == k && $0 != "" { print >(dir "/good." k) }
-            at + 0 > k { print >(dir "/after." k) }
+        place=$((k == 0 ? own : k + heads - 1))
+        awk -v k="$k" -v place="$place" -v dir="$work" '
+            at + 0 < place { print >(dir "/before." k) }
+            at + 0 == place && $0 != "" { print >(dir "/good." k) }
+            at + 0 > place { print >(dir "/after." k) }
             $0 == "" { at++ }' "$work/closed"
     done
+    awk -v own="$own" -v heads="$heads" 'at + 0 > own && at < heads; $0 == "" { at++ }' "$work/closed" >"$work/heads"
     interval=$(tail -n 1 "$work/good.$middle")
 }
 
@@ -172,13 +180,20 @@ behind() {
     answered "nothing but empty lines, endless"
 }
 
+# An empty input lacks the first header.
+refused_empty() {
+    refused_at - 1
+    sed 's/ header=.*/ header=0/' "$work/want" >"$work/empty"
+    cp "$work/empty" "$work/want"
+}
+
 # All cases of the sample $1. An empty input is a header without a line.
 sheet_cases() {
     cut_up "$1" 24
     as_it_is "$1"
     ends_anywhere
     slowly
-    refused_at - 1
+    refused_empty
     input_closed
     cp "$work/paid" "$work/want"
     output_closed "$work/closed"

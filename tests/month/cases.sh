@@ -6,34 +6,34 @@
 sheets_change() {
     fresh
     as_user "$way"
-    settled "a first run" 0 4711-01 4711-02 "other units/it's 12"
+    settled "a first run" 0 4711-2026-05-01 4711-2026-05-11 "other units/it's 12-2026-05-02"
     as_user "$way"
     settled "nothing new" 0
 
-    put 4711-01 mixed
-    touch -d '2024-05-01 06:00:00.25' "$user/sheets/4711-01.txt"
+    put 4711-2026-05-01 mixed
+    touch -d '2024-05-01 06:00:00.25' "$user/sheets/4711-2026-05-01.txt"
     as_user "$way"
-    settled "a corrected sheet" 0 4711-01
-    put 4711-01 paid
-    touch -d '2024-05-01 06:00:00.75' "$user/sheets/4711-01.txt"
+    settled "a corrected sheet" 0 4711-2026-05-01
+    put 4711-2026-05-01 paid
+    touch -d '2024-05-01 06:00:00.75' "$user/sheets/4711-2026-05-01.txt"
     as_user "$way"
-    settled "a sheet that is corrected within a second" 0 4711-01
+    settled "a sheet that is corrected within a second" 0 4711-2026-05-01
     # As where it comes by a copy that keeps its time, or is put back.
-    put 4711-01 mixed
-    touch -d '2024-05-01 05:00:00' "$user/sheets/4711-01.txt"
+    put 4711-2026-05-01 mixed
+    touch -d '2024-05-01 05:00:00' "$user/sheets/4711-2026-05-01.txt"
     as_user "$way"
-    settled "a corrected sheet that is older than the answer" 0 4711-01
+    settled "a corrected sheet that is older than the answer" 0 4711-2026-05-01
 
-    put 4711-00 short
-    put 4711-03 surplus
-    put 4711-04 spring
-    put 4711-05 autumn
+    put 4711-2026-04-20 short
+    put 4711-2026-05-21 surplus
+    put 4711-2027-03-14 spring
+    put 4711-2027-11-07 autumn
     as_user "$way"
-    settled "sheets added, in front and behind, of days of 23 to 25 hours" 0 4711-00 4711-03 4711-04 4711-05
+    settled "sheets added, in front and behind, of days of 23 to 25 hours" 0 4711-2026-04-20 4711-2026-05-21 4711-2027-03-14 4711-2027-11-07
 
     touch "$bin/day"
     as_user "$way"
-    settled "a new program" 0 4711-00 4711-01 4711-02 4711-03 4711-04 4711-05 "other units/it's 12"
+    settled "a new program" 0 4711-2026-04-20 4711-2026-05-01 4711-2026-05-11 4711-2026-05-21 4711-2027-03-14 4711-2027-11-07 "other units/it's 12-2026-05-02"
     touch -r "$work/day" "$bin/day"
 }
 
@@ -49,25 +49,32 @@ answers_change() {
     fresh
     as_user "$way"
     for cut in 'cat /dev/null' 'head -c -1' 'head -c -3' 'head -n -1' 'head -n 3' 'head -c 5' 'sed 3d'; do
-        spoil 4711-01 "$cut"
+        spoil 4711-2026-05-01 "$cut"
         as_user "$way"
-        settled "an answer through $cut" 0 4711-01
+        settled "an answer through $cut" 0 4711-2026-05-01
     done
-    for cut in 'cat /dev/null' 'head -c -1' 'head -c 5'; do
-        spoil 4711-02 "$cut"
+    for cut in 'cat /dev/null' 'head -c -1' 'head -c 5' "sed 's/ header=1//'" "sed 's/=1$/=/'"; do
+        spoil 4711-2026-05-11 "$cut"
         as_user "$way"
-        settled "a header's refusal through $cut" 0 4711-02
+        settled "a header's refusal through $cut" 0 4711-2026-05-11
     done
-    rm "$user/sheets/other units/it's 12.out"
+    rm "$user/sheets/other units/it's 12-2026-05-02.out"
     as_user "$way"
-    settled "an answer that is gone" 0 "other units/it's 12"
+    settled "an answer that is gone" 0 "other units/it's 12-2026-05-02"
 
-    echo 'total=1' >"$user/sheets/4711-09.out"
+    echo 'total=1' >"$user/sheets/4711-2026-05-29.out"
     as_user "$way"
-    if [ "$status" -eq 1 ] && grep -q 'without a sheet: sheets/4711-09.out' "$work/err"; then
+    if [ "$status" -eq 1 ] && grep -q 'without a sheet: sheets/4711-2026-05-29.out' "$work/err"; then
         pass
     else
         fail "an answer without a sheet: status $status"
+    fi
+    mv "$user/sheets/4711-2026-05-29.out" "$user/sheets/4711-2026-05-29.days"
+    as_user "$way"
+    if [ "$status" -eq 1 ] && grep -q 'without a sheet: sheets/4711-2026-05-29.days' "$work/err"; then
+        pass
+    else
+        fail "headers without a sheet: status $status"
     fi
 }
 
@@ -89,7 +96,7 @@ restore_program() {
 programs_fail() {
     fresh
     as_user "$way"
-    put 4711-01 mixed
+    put 4711-2026-05-01 mixed
     rm -f "$bin/day"
     as_user "$way"
     not_settled "a missing program" "no program $bin/day"
@@ -98,28 +105,28 @@ programs_fail() {
         "'$work/day' | head -c -1; kill -9 \$\$" 'echo no sheet >&2; exit 3'; do
         replace_program "$fault"
         as_user "$way"
-        not_settled "a program that does $fault" "no answer: sheets/4711-01.txt" 4711-01
+        not_settled "a program that does $fault" "no answer: sheets/4711-2026-05-01.txt" 4711-2026-05-01
     done
     # A half answer is in its place at no time: not before the folder is looked through for the last time, either.
     replace_program "'$work/day' | head -n 7"
-    as_user "PATH=$bin:\$PATH settle .settle '$work' day sheets/4711-01.txt"
-    not_settled "a half answer" sheets/4711-01.txt 4711-01
+    as_user "PATH=$bin:\$PATH settle .settle '$work' day sheets/4711-2026-05-01.txt"
+    not_settled "a half answer" sheets/4711-2026-05-01.txt 4711-2026-05-01
     restore_program
     as_user "$way"
-    settled "behind programs that failed" 0 4711-01
+    settled "behind programs that failed" 0 4711-2026-05-01
 }
 
 # The sheet is corrected when the program has read the first one.
 sheet_moves() {
     fresh
-    cp "$samples/day/short.txt" "$work/corrected"
-    replace_program "cat >'$work/read'; cp '$work/corrected' '$user/sheets/4711-01.txt'; exec '$work/day' <'$work/read'"
+    stored <"$samples/day/short.txt" >"$work/corrected"
+    replace_program "cat >'$work/read'; cp '$work/corrected' '$user/sheets/4711-2026-05-01.txt'; exec '$work/day' <'$work/read'"
     as_user "$way"
-    not_settled "a sheet that changes meanwhile" "no answer: sheets/4711-01.txt" 4711-01
+    not_settled "a sheet that changes meanwhile" "no answer: sheets/4711-2026-05-01.txt" 4711-2026-05-01
     restore_program
-    put 4711-01 short
+    put 4711-2026-05-01 short
     as_user "$way"
-    settled "a sheet that changed meanwhile" 0 4711-01
+    settled "a sheet that changed meanwhile" 0 4711-2026-05-01
 }
 
 # --- A run that is killed by this signal, when it has half an answer.
@@ -134,7 +141,7 @@ run_killed() {
     kill_it "$1"
     if [ "$began" -ne 0 ]; then
         fail "a run that is killed by $1: it did not begin"
-    elif find "$user/sheets" -name '*.out' | grep -q .; then
+    elif find "$user/sheets" -name '*.out' -o -name '*.days' | grep -q .; then
         fail "a run that is killed by $1: it left an answer"
     else
         pass
@@ -143,7 +150,7 @@ run_killed() {
     # What is left of it bears no answer's name, and is removed by a run of another day.
     find "$user/sheets" -name '*.new.*' -exec rm -f {} +
     as_user "$way"
-    settled "behind a run that was killed by $1" 0 4711-01 4711-02 "other units/it's 12"
+    settled "behind a run that was killed by $1" 0 4711-2026-05-01 4711-2026-05-11 "other units/it's 12-2026-05-02"
 }
 
 all_cases() {
@@ -151,6 +158,7 @@ all_cases() {
     answers_change
     programs_fail
     sheet_moves
+    neighbours
     run_killed TERM
     run_killed KILL
 }
@@ -187,7 +195,7 @@ n=0
 while read -r copy; do
     n=\$((n + 1))
     echo "=\${copy##*/}"
-    if [ "\$n" -eq $1 ]; then day <"\$copy" | $2 && cp "\$copy.name" '$work/cut/lost'; else day <"\$copy" && echo =; fi
+    if [ "\$n" -eq $1 ]; then day <"\$copy" | $2 && cp "\${copy%.day}.name" '$work/cut/lost'; else day <"\$copy" && echo =; fi
 done
 END
     chmod +x "$work/cut/parallel"
@@ -207,7 +215,7 @@ other_commands() {
     fresh
     as_user "$here"
     as_user "$totals"
-    printf '%s\n' 'sheets/4711-02.out' "sheets/other units/it's 12.out" | sort >"$work/want.totals"
+    printf '%s\n' 'sheets/4711-2026-05-11.out' "sheets/other units/it's 12-2026-05-02.out" | sort >"$work/want.totals"
     sort "$work/out" | cmp -s - "$work/want.totals" && pass || fail "$totals: $(cat "$work/out")"
     as_user "$refusals"
     [ "$(grep -c 'refused=' "$work/out")" -eq 8 ] && pass || fail "$refusals: $(wc -l <"$work/out") lines"

@@ -1,5 +1,5 @@
 # What the sheet's page says of the two forms, of a controllable line's header and
-# of the count of hours. Read by sheet.sh.
+# of the count of hours. Read by sheet.sh, as is headers.sh.
 
 # The listing $2, through sed, and blocks like the other listing for its hours: its program prints $5.
 prints_for() {
@@ -10,10 +10,29 @@ prints_for() {
     answered "$2, $4"
 }
 
+# A good sheet, as a neighbour or between neighbours.
+with_blocks "$work/listing.form-1" "$work/listing.block" >"$work/good"
+
+# The listing $1, through sed, alone and as each of the three headers: `day` prints $3, and which header it is.
+each_header() {
+    prints_for day "$1" block "$2" "$3 header=1"
+    mv "$work/text" "$work/faulty"
+    n=0
+    for places in "faulty good good" "good faulty good" "good good faulty"; do
+        # shellcheck disable=SC2086
+        set -- "$1" "$2" "$3" $places
+        between "$work/$4" "$work/$5" "$work/$6" >"$work/input"
+        echo "$3 header=$n" >"$work/want"
+        within 20 "$day" <"$work/input" >"$work/got" 2>"$work/err"
+        answered "$1, $2, as header $n"
+        n=$((n + 1))
+    done
+}
+
 # What is refused of the two forms, and of a controllable line's header.
 while read -r listing change answer; do
     case $listing in
-        form-*) prints_for day "$listing" block "$change" "$answer" ;;
+        form-*) each_header "$listing" "$change" "$answer" ;;
         line*) prints_for line "$listing" transfer "$change" "$answer" ;;
     esac
 done <<'END'

@@ -7,12 +7,22 @@ use Rattle.tariff.specs.Total.{Sum, total, noTotal}
 use Rattle.tariff.specs.Import as import
 use Rattle.text.specs.Text.{LF, bytes}
 use Rattle.page.specs.Numerals.{counted, valued}
+use Rattle.answers.specs.declared.Ending.{Ending}
+use Rattle.answers.specs.declared.Ending.the-variants.{Plain, Header}
 
 abbrev pub feed : List ℕ
 feed = LF ∷ []
 
+-- what ends the line of a refused header: nothing, or which of several headers it is
+abbrev pub endingOf : Ending → List ℕ
+endingOf Plain = []
+endingOf (Header header) = counted (bytes " header=") header
+
+abbrev pub refusedEnding : (ending : List ℕ) → (number place : ℕ) → List ℕ
+refusedEnding ending number place = counted (bytes "refused=") number ++ counted (bytes " at=") place ++ (ending ++ feed)
+
 abbrev pub refusedLine : (number place : ℕ) → List ℕ
-refusedLine number place = counted (bytes "refused=") number ++ counted (bytes " at=") place ++ feed
+refusedLine = refusedEnding []
 
 -- what is said of a sheet that is only judged: its refusal, or nothing
 abbrev pub refusalText : Verdict → List ℕ
@@ -37,7 +47,7 @@ abbrev pub answerText : (hour : ℤ) → (grains : List ℤ) → Reply → List 
 answerText hour grains (paid sum cents) = numbered intervalLine 1 grains ++ payLine (bytes "hour=") hour cents
 answerText hour grains (refused number place) = refusedLine number place
 
--- ---- a day: a line for each block place, then the total, or a refused header's refusal alone
+-- ---- a day: a line for each block place, then the total, or a refused header's refusal alone, with what ends its line
 
 abbrev pub hourLine : ℕ → Reply → List ℕ
 hourLine k (paid sum cents) = payLine (bytes "hour=") (pos k) cents
@@ -47,9 +57,9 @@ abbrev pub totalLine : Sum → List ℕ
 totalLine (total cents) = valued (bytes "total=") cents ++ feed
 totalLine noTotal = bytes "total=-\n"
 
-abbrev pub dayLines : Verdict → List Reply → Sum → List ℕ
-dayLines clear replies sum = numbered hourLine 0 replies ++ totalLine sum
-dayLines (fault number place) replies sum = refusedLine number place
+abbrev pub dayLines : (ending : List ℕ) → Verdict → List Reply → Sum → List ℕ
+dayLines ending clear replies sum = numbered hourLine 0 replies ++ totalLine sum
+dayLines ending (fault number place) replies sum = refusedEnding ending number place
 
 -- ---- an import: the payment, or the refusal with its hour
 

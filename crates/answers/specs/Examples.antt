@@ -7,7 +7,8 @@ use Rattle.tariff.specs.Import as import
 use Rattle.text.specs.Text.{bytes}
 use Rattle.text.specs.Decimal.{natural}
 use Rattle.tariff.specs.Total.{total, noTotal}
-use Rattle.answers.specs.Answers.{numbered, refusalText, answerText, dayLines, importLine}
+use Rattle.answers.specs.declared.Ending.the-variants.{Header}
+use Rattle.answers.specs.Answers.{numbered, refusalText, answerText, endingOf, dayLines, importLine}
 
 pub listing-printed : answerText (pos 14) (pos 27000000000 ∷ pos 72900000000 ∷ negsuc 8999999999 ∷ pos 0 ∷ []) (paid (pos 90900000000) (pos 25250))
     ≡ bytes "i=1 grains=27000000000\ni=2 grains=72900000000\ni=3 grains=-9000000000\ni=4 grains=0\nhour=14 pay=25250\n"
@@ -19,17 +20,22 @@ unfolding natural
 reach-at-1 = refl
 
 -- a day of two hours, one refused; and one whose header is
-pub two-hours : dayLines clear (paid (pos 0) (pos 25250) ∷ refused 1 34 ∷ []) noTotal ≡ bytes "hour=0 pay=25250\nhour=1 refused=1 at=34\ntotal=-\n"
+pub two-hours : dayLines [] clear (paid (pos 0) (pos 25250) ∷ refused 1 34 ∷ []) noTotal ≡ bytes "hour=0 pay=25250\nhour=1 refused=1 at=34\ntotal=-\n"
 unfolding natural numbered
 two-hours = refl
 
-pub one-hour : dayLines clear (paid (pos 3600000) (pos 1) ∷ []) (total (pos 1)) ≡ bytes "hour=0 pay=1\ntotal=1\n"
+pub one-hour : dayLines [] clear (paid (pos 3600000) (pos 1) ∷ []) (total (pos 1)) ≡ bytes "hour=0 pay=1\ntotal=1\n"
 unfolding natural numbered
 one-hour = refl
 
-pub bad-header : dayLines (fault 2 3) [] noTotal ≡ bytes "refused=2 at=3\n"
+pub bad-header : dayLines [] (fault 2 3) [] noTotal ≡ bytes "refused=2 at=3\n"
 unfolding natural
 bad-header = refl
+
+-- the header of the day after
+pub bad-neighbour : dayLines (endingOf (Header 2)) (fault 2 3) [] noTotal ≡ bytes "refused=2 at=3 header=2\n"
+unfolding natural
+bad-neighbour = refl
 
 -- a sheet that does not go down, and one that does
 pub back-at-2 : refusalText (fault BACK 2) ≡ bytes "refused=9 at=2\n"

@@ -7,7 +7,7 @@ ghost use Rattle.tariff.specs.Total.{toldTotal, toldAll};
 ghost use Rattle.text.specs.Text.{bytes};
 ghost use Rattle.page.specs.Page.{Put};
 ghost use Rattle.page.specs.Numerals.{counted};
-ghost use Rattle.answers.specs.Answers.{feed, refusedLine, refusalText, payLine, intervalLine, numbered, answerText, hourLine, totalLine, dayLines, importLine};
+ghost use Rattle.answers.specs.Answers.{feed, refusedLine, refusalText, payLine, intervalLine, numbered, answerText, hourLine, totalLine, endingOf, refusedEnding, dayLines, importLine};
 use tariff::Answer;
 use tariff::Cents;
 use tariff::Check;
@@ -25,11 +25,38 @@ fn put_place(page: &mut [u8], at: usize, place: usize) -> usize
     page::put(page, behind_place, b"\n")
 }
 
+// What ends the line of a refused header: nothing, or which of several headers it is.
+pub enum Ending {
+    Plain,
+    Header(usize),
+}
+
+fn put_end(page: &mut [u8], at: usize, ending: Ending) -> usize
+    ensures { λ r. ⌜ Put (now (page .entry)) at (endingOf ending ++ feed) (now (page .exit)) r ⌝ }
+{
+    match ending {
+        Ending::Plain => page::put(page, at, b"\n"),
+        Ending::Header(header) => {
+            let behind_header = page::put_count(page, at, b" header=", header as u64);
+            page::put(page, behind_header, b"\n")
+        }
+    }
+}
+
+fn put_ending(page: &mut [u8], at: usize, check: Check, ending: Ending) -> usize
+    ensures { λ r. ⌜ Put (now (page .entry)) at (refusedEnding (endingOf ending) (numberOf check) (placeOf check)) (now (page .exit)) r ⌝ }
+{
+    let number = tariff::number_of(check);
+    let place = tariff::place_of(check);
+    let behind_number = page::put_count(page, at, b"refused=", number);
+    let behind_place = page::put_count(page, behind_number, b" at=", place as u64);
+    put_end(page, behind_place, ending)
+}
+
 fn put_refusal(page: &mut [u8], at: usize, check: Check) -> usize
     ensures { λ r. ⌜ Put (now (page .entry)) at (refusedLine (numberOf check) (placeOf check)) (now (page .exit)) r ⌝ }
 {
-    let behind_number = page::put_count(page, at, b"refused=", tariff::number_of(check));
-    put_place(page, behind_number, tariff::place_of(check))
+    put_ending(page, at, check, Ending::Plain)
 }
 
 // The refusal of a sheet that is only judged, or nothing.
@@ -149,15 +176,16 @@ fn put_total(page: &mut [u8], at: usize, total: Total) -> usize
 pub fn put_day(
     page: &mut [u8],
     at: usize,
-    header: Found,
+    found: Found,
+    ending: Ending,
     hours: [HourAnswer; tariff::LONGEST_DAY],
     count: usize,
     total: Total,
 ) -> usize
-    ensures { λ r. ⌜ Put (now (page .entry)) at (dayLines (shown header) (take count (toldAll hours)) (toldTotal total)) (now (page .exit)) r ⌝ }
+    ensures { λ r. ⌜ Put (now (page .entry)) at (dayLines (endingOf ending) (shown found) (take count (toldAll hours)) (toldTotal total)) (now (page .exit)) r ⌝ }
 {
-    match header {
-        Found::Fault(check) => put_refusal(page, at, check),
+    match found {
+        Found::Fault(check) => put_ending(page, at, check, ending),
         Found::Nothing => {
             let behind_hours = put_hours(page, at, hours, count);
             put_total(page, behind_hours, total)

@@ -8,18 +8,25 @@ use Prim.Native.Nat.{ℕ, suc, _+_, _≤_}
 use lib.ListN.{length}
 use Rattle.tariff.specs.Sheet.{SHORTEST-DAY, USUAL-DAY, LONGEST-DAY}
 use Rattle.tariff.specs.Reply.{FORM, RANGE, BACK, Verdict, clear, fault}
+use Rattle.lines.specs.Cut.{behind}
+use Rattle.lines.specs.Pieces.{firstPiece, OnePiece}
 use Rattle.lines.specs.Squeezed.{squeezed}
 use Rattle.header.specs.Layout.{layoutForm}
 use Rattle.header.specs.Header.{isForm2, layoutOf, hoursOf, headerFault, unitOf}
 use Rattle.intake.specs.Front.{Decides}
-use Rattle.ledger.specs.Day.{Front, frontOf, dayReply, dayTotal}
-use Rattle.printed.specs.Printed.{dayPage, dayText}
+use Rattle.ledger.specs.Headers.{daySaid}
+use Rattle.ledger.specs.Day.{frontOf}
+use Rattle.ledger.specs.Demand.{SettledAlike}
+use Rattle.ledger.specs.Stored.{dayInput}
+use Rattle.ledger.proofs.StoredAlike.{SameSheet, own-exchanged, before-exchanged, after-exchanged}
+use Rattle.printed.specs.Printed.{headerEnd, dayText}
+use Rattle.printed.proofs.Texts.{printed-alike}
 use Rattle.archive.specs.declared.Way.{Way}
 use Rattle.archive.specs.declared.Way.the-variants.{Down}
 use Rattle.archive.specs.Move.{back, firstLines, moveFault, movedUnder, movedText, formFor, formSaid, Moves}
 use Rattle.archive.proofs.FirstLines.{isTwo}
 use Rattle.archive.proofs.Refusals.{moves-when, when-moves, form-when, wrong-way-when, range-when, back-when}
-use Rattle.archived.proofs.Moving.{rest, begins, moved-is, goes-back, same-front, same-unit, moved-fits}
+use Rattle.archived.proofs.Moving.{rest, begins, moved-is, goes-back, same-day, same-blocks, same-unit, moved-fits}
 use Rattle.archived.proofs.Fronts.{same-answer, rest-passes, ended-moves}
 
 -- ==== what becomes of a sheet that moves
@@ -33,19 +40,39 @@ module _ (way : Way) (s t : List ℕ) (m : Moves way s t) where
   pub only-the-first-lines-are-rewritten : (rest : List ℕ) × (s ≡ firstLines way ++ rest) × (t ≡ firstLines (back way) ++ rest)
   only-the-first-lines-are-rewritten = (rest way s (m .passes), begins way s (m .passes), sym (m .becomes) ∙ moved-is way s (m .passes))
 
-  -- It says the same unit, and in front of its blocks the same hours and marks; and the blocks are the same, byte for byte.
+  -- It says the same unit and the same of its day, hours and marks; and the blocks are the same, byte for byte.
   pub the-unit-stays : unitOf s ≡ unitOf t
   the-unit-stays = same-unit way s (m .passes) ∙ ap unitOf (m .becomes)
 
-  pub the-front-and-the-blocks-stay : frontOf s ≡ frontOf t
-  the-front-and-the-blocks-stay = same-front way s (m .passes) ∙ ap frontOf (m .becomes)
+  pub the-day-and-the-blocks-stay : (daySaid s ≡ daySaid t) × (behind s ≡ behind t)
+  the-day-and-the-blocks-stay = (same-day way s (m .passes) ∙ ap daySaid (m .becomes), same-blocks way s (m .passes) ∙ ap behind (m .becomes))
 
-  -- So its answers are equal hour by hour, and what `day` prints of it is the same, byte for byte.
-  pub the-answers-stay : ((k : ℕ) → dayReply (frontOf s) k ≡ dayReply (frontOf t) k) × (dayTotal (frontOf s) ≡ dayTotal (frontOf t))
-  the-answers-stay = (λ k. ap (λ (f : Front). dayReply f k) the-front-and-the-blocks-stay, ap dayTotal the-front-and-the-blocks-stay)
+  says-the-same : SameSheet s t
+  says-the-same =
+      record {
+        one-read = moves-when s way (m .passes) .0;
+        other-read = moves-when t (back way) (what-moves-comes-back .passes) .0;
+        unit = the-unit-stays;
+        day = the-day-and-the-blocks-stay .0;
+      }
 
-  pub what-is-printed-stays : dayText s ≡ dayText t
-  what-is-printed-stays = ap dayPage the-front-and-the-blocks-stay
+  -- So its answers are equal hour by hour, and the total, whatever the headers of its neighbours are; and what `day` prints is the same, byte for byte.
+  module _ (before after : List ℕ) (one : OnePiece before) (other : OnePiece after) where
+    pub the-answers-stay : SettledAlike (frontOf (dayInput before s after)) (frontOf (dayInput before t after))
+    the-answers-stay = own-exchanged before after s t one other says-the-same (the-day-and-the-blocks-stay .1)
+
+    pub what-is-printed-stays : dayText (dayInput before s after) ≡ dayText (dayInput before t after)
+    what-is-printed-stays = printed-alike headerEnd _ _ the-answers-stay
+
+  -- And so it is with the days beside it, where their headers are read and of its unit: its header may stand as a neighbour's, moved or not.
+  module _ (sheet : List ℕ) (read : headerFault sheet ≡ clear) (unit : unitOf s ≡ unitOf sheet) where
+    pub what-is-printed-of-the-day-after-stays :
+        (after : List ℕ) → OnePiece after → dayText (dayInput (firstPiece s) sheet after) ≡ dayText (dayInput (firstPiece t) sheet after)
+    what-is-printed-of-the-day-after-stays after one = printed-alike headerEnd _ _ (before-exchanged sheet s t read says-the-same unit after one)
+
+    pub what-is-printed-of-the-day-before-stays :
+        (before : List ℕ) → OnePiece before → dayText (dayInput before sheet (firstPiece s)) ≡ dayText (dayInput before sheet (firstPiece t))
+    what-is-printed-of-the-day-before-stays before one = printed-alike headerEnd _ _ (after-exchanged sheet s t read says-the-same unit before one)
 
 -- ==== which sheets move, and what refuses the others
 
@@ -87,13 +114,13 @@ module _ (way : Way) (s : List ℕ) where
 
 -- The text that came, squeezed, decides where its header has closed or 10,640 bytes of it stand: it is refused as every sheet is that begins so; and
 -- what is written of it, and then the rest as it comes, is what the whole sheet becomes.
-module _ (way : Way) (text more : List ℕ) (enough : Decides text (length (squeezed text))) where
-  pub what-came-is-refused-as-the-whole : moveFault way (squeezed text) ≡ moveFault way (text ++ more)
+module _ (way : Way) (text more : List ℕ) (enough : Decides text (length (squeezed 1 text))) where
+  pub what-came-is-refused-as-the-whole : moveFault way (squeezed 1 text) ≡ moveFault way (text ++ more)
   what-came-is-refused-as-the-whole = same-answer way text more enough
 
-  pub what-came-and-the-rest-is-the-moved-sheet : moveFault way (text ++ more) ≡ clear → movedText way (squeezed text) ++ more ≡ movedText way (text ++ more)
+  pub what-came-and-the-rest-is-the-moved-sheet : moveFault way (text ++ more) ≡ clear → movedText way (squeezed 1 text) ++ more ≡ movedText way (text ++ more)
   what-came-and-the-rest-is-the-moved-sheet = rest-passes way text more enough
 
 -- Where the input has ended, what is written of the text that came is what it becomes.
-pub what-came-to-its-end-is-moved-whole : (way : Way) (text : List ℕ) → movedText way (squeezed text) ≡ movedText way text
+pub what-came-to-its-end-is-moved-whole : (way : Way) (text : List ℕ) → movedText way (squeezed 1 text) ≡ movedText way text
 what-came-to-its-end-is-moved-whole = ended-moves

@@ -18,14 +18,14 @@ use Rattle.archive.proofs.Refusals.{moves-when}
 use Rattle.passing.proofs.Decided.{front-decides}
 use Rattle.archived.proofs.Moving.{begins, rest}
 
-module _ (way : Way) (text more : List ℕ) (enough : Decides text (length (squeezed text))) where
-  pub same-answer : moveFault way (squeezed text) ≡ moveFault way (text ++ more)
+module _ (way : Way) (text more : List ℕ) (enough : Decides text (length (squeezed 1 text))) where
+  pub same-answer : moveFault way (squeezed 1 text) ≡ moveFault way (text ++ more)
   same-answer = same-fault way (front-decides text more enough)
 
-  pub rest-passes : moveFault way (text ++ more) ≡ clear → movedText way (squeezed text) ++ more ≡ movedText way (text ++ more)
+  pub rest-passes : moveFault way (text ++ more) ≡ clear → movedText way (squeezed 1 text) ++ more ≡ movedText way (text ++ more)
   unfolding moved
   rest-passes e =
-      let read = same-fault way (same-turned (squeezed-header text)) ∙ same-answer ∙ e in
+      let read = same-fault way (same-turned (squeezed-header 0 text)) ∙ same-answer ∙ e in
       let stands = header-stands text (moves-when text way read .0) in
       let first = firstLines way in
       let inside : length first ≤ length text = let l = ap length (begins way text read) ∙ length-append first (rest way text read) in omega arith in
@@ -35,13 +35,13 @@ module _ (way : Way) (text more : List ℕ) (enough : Decides text (length (sque
       ∙ ap (λ (v : Verdict). movedUnder v way (text ++ more)) (sym e)
 
 -- ---- where the input has ended, of the text alone
-pub ended-moves : (way : Way) (text : List ℕ) → movedText way (squeezed text) ≡ movedText way text
+pub ended-moves : (way : Way) (text : List ℕ) → movedText way (squeezed 1 text) ≡ movedText way text
 ended-moves way text = go (moveFault way text) refl
   where
-    same : moveFault way (squeezed text) ≡ moveFault way text
-    same = same-fault way (squeezed-header text)
+    same : moveFault way (squeezed 1 text) ≡ moveFault way text
+    same = same-fault way (squeezed-header 0 text)
 
-    go : (v : Verdict) → moveFault way text ≡ v → movedText way (squeezed text) ≡ movedText way text
+    go : (v : Verdict) → moveFault way text ≡ v → movedText way (squeezed 1 text) ≡ movedText way text
     go clear e = ap (movedText way) (header-stands text (moves-when text way e .0))
     go (fault number place) e =
-        ap (λ (v : Verdict). movedUnder v way (squeezed text)) (same ∙ e) ∙ ap (λ (v : Verdict). movedUnder v way text) (sym e)
+        ap (λ (v : Verdict). movedUnder v way (squeezed 1 text)) (same ∙ e) ∙ ap (λ (v : Verdict). movedUnder v way text) (sym e)

@@ -9,11 +9,11 @@ use lib.Seq.{drop-append-seam}
 use Rattle.tariff.specs.declared.Marks.{Marks}
 use Rattle.tariff.specs.Sheet.{USUAL-DAY}
 use Rattle.tariff.specs.Reply.{Verdict, clear, fault}
-use Rattle.tariff.specs.Eligible.{excluded}
 use Rattle.text.specs.Decimal.{natural}
-use Rattle.header.specs.Header.{headerFault, unitOf, marksOf}
-use Rattle.ledger.specs.Day.{generatorAnswer, frontOf}
-use Rattle.ledger.proofs.SheetFront.{as-marked}
+use Rattle.lines.specs.Cut.{behind}
+use Rattle.header.specs.Header.{headerFault, unitOf, marksOf, marksUnder}
+use Rattle.header.proofs.HeaderBehind.{clear-behind}
+use Rattle.ledger.specs.Headers.{daySaid}
 use Rattle.spelling.specs.Header.{unitAndMarksText, headerText}
 use Rattle.spelling.proofs.Spelling.{a-header-that-is-read-is-its-text}
 use Rattle.archive.specs.declared.Way.{Way}
@@ -42,7 +42,7 @@ module _ (way : Way) (s : List ℕ) (e : moveFault way s ≡ clear) where
       let when = moves-when s way e in
       let two = when .1 in
       let hours = when .2 in
-      let body = frontOf s .body in
+      let body = behind s in
       let text = a-header-that-is-read-is-its-text s (when .0) ∙ (λ i. headerText (two i) (hours i) (unitOf s) (marksOf s) ++ body) ∙ lines-printed way (unitOf s) (marksOf s) body in
       text ∙ ap (λ (l : List ℕ). firstLines way ++ l) (sym (ap (drop (length (firstLines way))) text ∙ drop-append-seam (firstLines way) _))
 
@@ -62,21 +62,31 @@ module _ (way : Way) (s : List ℕ) (e : moveFault way s ≡ clear) where
         becomes = (λ i. firstLines (back-again way i) ++ drop-append-seam (firstLines (back way)) rest i) ∙ sym begins;
       }
 
-  -- ---- with the same front: both are read, and they have the same hours, marks and blocks
-  pub same-front : frontOf s ≡ frontOf (moved way s)
+  -- ---- that says the same of its day, and has the same blocks
+  pub same-day : daySaid s ≡ daySaid (moved way s)
   unfolding moved
-  same-front = subst (λ (l : List ℕ). frontOf l ≡ frontOf (firstLines (back way) ++ rest)) (sym begins) fronts
+  same-day = subst (λ (l : List ℕ). daySaid l ≡ daySaid (firstLines (back way) ++ rest)) (sym begins) days
     where
-      fronts : frontOf (firstLines way ++ rest) ≡ frontOf (firstLines (back way) ++ rest)
-      fronts =
+      days : daySaid (firstLines way ++ rest) ≡ daySaid (firstLines (back way) ++ rest)
+      days =
           let read = header-read in
           let reads = moved-clear way rest header-read in
+          let marks = ap (λ (v : Verdict). marksUnder v (firstLines way ++ rest)) read
+          ∙ moved-marks way rest header-read
+          ∙ ap (λ (v : Verdict). marksUnder v (firstLines (back way) ++ rest)) (sym reads)
+          in
           let hours = moved-hours way rest header-read in
-          let marks = moved-marks way rest header-read in
-          let out = as-marked (firstLines way ++ rest) read ∙ (λ i. excluded (hours i) (marks i)) ∙ sym (as-marked (firstLines (back way) ++ rest) reads) in
-          let body = moved-behind way rest header-read in
-          let fault = read ∙ sym reads in
-          λ i. record { fault = fault i; hours = hours i; isExcluded = out i; body = body i; answer = generatorAnswer }
+          λ i. record { hours = hours i; marks = marks i }
+
+  pub same-blocks : behind s ≡ behind (moved way s)
+  unfolding moved
+  same-blocks = subst (λ (l : List ℕ). behind l ≡ behind (firstLines (back way) ++ rest)) (sym begins) blocks
+    where
+      blocks : behind (firstLines way ++ rest) ≡ behind (firstLines (back way) ++ rest)
+      blocks =
+          sym (clear-behind (firstLines way ++ rest) header-read)
+          ∙ moved-behind way rest header-read
+          ∙ clear-behind (firstLines (back way) ++ rest) (moved-clear way rest header-read)
 
   pub same-unit : unitOf s ≡ unitOf (moved way s)
   unfolding moved

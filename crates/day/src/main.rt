@@ -1,5 +1,6 @@
-// `day`: settles a day's sheet from standard input. It prints a line for each hour and then the total, or a refused header's refusal
-// alone. Given any argument, such as a sheet's name, it settles nothing and says on standard error how it is used.
+// `day`: settles a day. It reads the headers of the day before, its own and the day after, then its blocks, from standard input; one empty line stands for a
+// neighbour that is lacking. It prints a line for each hour and then the total, or a refused header's refusal alone, which ends with the header's
+// number. Given any argument, such as a sheet's name, it settles nothing and says on standard error how it is used.
 use libc::STDERR_FILENO;
 use libc::STDOUT_FILENO;
 
@@ -8,9 +9,13 @@ fn say(line: &[u8]) {
 }
 
 fn say_usage() {
-    say(b"day takes no argument. It reads a day's sheet on standard input: day < SHEET\n");
-    say(b"It prints hour=H pay=C or hour=H refused=R at=L for each hour, then total=C.\n");
-    say(b"Read on: docs/sheet.md for the sheet, docs/answers.md for what is printed.\n");
+    say(
+        b"day takes no argument. It reads on standard input the headers of the day before, its own and the day after, then its blocks: day < INPUT\n",
+    );
+    say(
+        b"It prints hour=H pay=C or hour=H refused=R at=L for each hour, then total=C; or of a refused header refused=R at=L header=N.\n",
+    );
+    say(b"Read on: docs/sheet.md for the input, docs/answers.md for what is printed.\n");
 }
 
 fn main() {
@@ -19,7 +24,7 @@ fn main() {
         return;
     }
     let mut text = [0u8; intake::DAY];
-    let n = input::take_sheet(&mut text);
+    let n = input::take_day(&mut text);
     let mut page = [0u8; printed::LONGEST];
     let m = printed::day_text(&text[..n], &mut page);
     io::write_all(STDOUT_FILENO, &page[..m]);

@@ -7,6 +7,7 @@ use mathlib.Core.Bool.{Bool, true, false}
 use mathlib.Core.List.{List, [], _++_}
 use mathlib.Core.Logic.{_↔_, _⊎_}
 use Prim.Native.Nat.{ℕ, suc, _+_, _*_, _<_, _≤_}
+use native.Mathlib.Omega.{arith}
 use lib.IntN.{ℤ, pos}
 use lib.ListN.{length, take, getD}
 use Rattle.exact.specs.Whole.{sumTo}
@@ -23,7 +24,7 @@ use Rattle.tariff.specs.Demand.{MustPrice, priceIn, FirstUnpriced, FirstExceede
 use Rattle.tariff.specs.Import as import
 use Rattle.tariff.proofs.Demands.{paid-row}
 use Rattle.text.specs.Text.{bytes}
-use Rattle.lines.specs.Pieces.{PIECE, restAfter, piece, isSome}
+use Rattle.lines.specs.Pieces.{PIECE, restAfter, piece, isSome, OnePiece}
 use Rattle.lines.specs.Squeezed.{squeezed}
 use Rattle.intake.specs.declared.Intake.{Intake}
 use Rattle.intake.specs.Intake.{PIECES, keptOf, afterAll, storeAll, atFirst}
@@ -49,11 +50,13 @@ use Rattle.sheet.proofs.BlockDemands.{
   behind-the-close,
 }
 use Rattle.header.specs.Layout.{layoutForm}
-use Rattle.header.specs.Header.{isForm2, layoutOf, hoursOf, headerFault, marksOf}
+use Rattle.header.specs.Header.{isForm2, layoutOf, hoursOf, headerFault}
+use Rattle.ledger.specs.Headers.{daySaid, neighbourOf}
+use Rattle.ledger.specs.Stored.{dayInput}
 use Rattle.ledger.specs.Day.{generatorAnswer, frontOf, dayReply, surplus, dayTotal}
 use Rattle.tariff.specs.Total.{total, Pays, paidCents}
 use Rattle.ledger.specs.Demand.{PricedAlike, DaysApart, BothRead}
-use Rattle.ledger.proofs.SheetFront.{as-marked, sheet-laws}
+use Rattle.ledger.proofs.SheetFront.{sheet-laws}
 use Rattle.ledger.proofs.DayDemands.{
   an-hour-is-refused-for-reach-exactly-when-some-kilowatt-is-unpriced,
   an-hour-is-refused-for-derate-exactly-when-some-reduction-exceeds,
@@ -62,7 +65,7 @@ use Rattle.ledger.proofs.DayDemands.{
 use Rattle.imports.specs.Import.{hoursIn, importReply}
 use Rattle.imports.specs.Demand.{PaidBy}
 use Rattle.imports.proofs.ImportDemands.{paid-exactly-when-unrefused}
-use Rattle.printed.specs.Printed.{LONGEST, hourText, dayText, importText}
+use Rattle.printed.specs.Printed.{LONGEST, headerEnd, hourText, dayText, importText}
 use Rattle.printed.proofs.Fits.{hour-fits, day-fits, import-fits}
 use Rattle.archive.specs.declared.Way.{Way}
 use Rattle.archive.specs.declared.Way.the-variants.{Down}
@@ -121,21 +124,23 @@ no-answer-is-cut s = (hour-fits s, day-fits s, import-fits s)
 -- Of texts, not of reading: however long a text is, the bounded part of it that a program keeps gives the same bytes.
 pub what-is-kept-decides :
     (s : List ℕ)
-    → (hourText (take PIECE s) ≡ hourText s) × (dayText (keptOf (atFirst PIECES) (squeezed s)) ≡ dayText s) × (importText (keptOf (atFirst PIECES) s) ≡ importText s)
-what-is-kept-decides s = (kept-hour s, kept-page frontOf generatorAnswer sheet-laws s, kept-import s)
+    → (hourText (take PIECE s) ≡ hourText s)
+    × (dayText (keptOf (atFirst PIECES) (squeezed 3 s)) ≡ dayText s)
+    × (importText (keptOf (atFirst PIECES) s) ≡ importText s)
+what-is-kept-decides s = (kept-hour s, kept-page headerEnd 3 frontOf generatorAnswer sheet-laws (omega arith) s, kept-import s)
 
 -- Once a byte stands behind the last block of the day that a text says, no further byte of it changes one that `day` or `import` prints.
 pub behind-the-last-block-no-byte-matters :
     (s t : List ℕ)
-    → (isSome (restAfter (suc (frontOf s .hours)) s) ≡ true → dayText (s ++ t) ≡ dayText s)
+    → (isSome (restAfter (3 + frontOf s .hours) s) ≡ true → dayText (s ++ t) ≡ dayText s)
     × (isSome (restAfter (suc (hoursIn s)) s) ≡ true → importText (s ++ t) ≡ importText s)
-behind-the-last-block-no-byte-matters s t = (append-page frontOf generatorAnswer sheet-laws s t, append-import s t)
+behind-the-last-block-no-byte-matters s t = (append-page headerEnd 3 frontOf generatorAnswer sheet-laws s t, append-import s t)
 
 -- What follows in a text behind the empty line that closes its first block never changes a byte of `hour`'s answer to it.
 pub hour-stops-at-the-empty-line : (s behind : List ℕ) → Closed s → hourText (s ++ behind) ≡ hourText s
 hour-stops-at-the-empty-line s behind c = same-hour (s ++ behind) s (behind-the-close s behind c)
 
--- A text that is taken in byte by byte leaves what is kept of it in a row of 276,723 bytes, in whatever parts the text comes.
+-- A text that is taken in byte by byte leaves what is kept of it in a row of 298,008 bytes or more, in whatever parts the text comes.
 pub the-row-holds-what-is-kept :
     (row s : List ℕ)
     → PIECES * (PIECE + 3) + 4 ≤ length row
@@ -249,10 +254,10 @@ pub refused-for-reach-exactly-when-some-interval-lacks-such-a-price :
     → ((place : ℕ) × (replyTo (blockOf s) isExcluded expected room ≡ refused REACH place)) ↔ (WholeHour h expected × UnpricedBeforeDerate h isExcluded)
 refused-for-reach-exactly-when-some-interval-lacks-such-a-price = block-refused-for-reach-exactly-when-some-kilowatt-is-unpriced
 
--- So is hour k of a day. It is excluded as the marks of the day's header say.
+-- So is hour k of a day. It is excluded as the marks of the day's own header say, and those of its neighbours' that reach over midnight.
 pub an-hour-is-excluded-as-the-marks-say :
-    (s : List ℕ) → frontOf s .fault ≡ clear → frontOf s .isExcluded ≡ excluded (frontOf s .hours) (marksOf s)
-an-hour-is-excluded-as-the-marks-say = as-marked
+    (s : List ℕ) (k : ℕ) → frontOf s .isExcluded k ≡ excluded (neighbourOf s) (daySaid (restAfter 1 s)) (neighbourOf (restAfter 2 s)) k
+an-hour-is-excluded-as-the-marks-say s k = refl
 
 pub refused-for-reach-in-a-day-exactly-when-some-interval-lacks-such-a-price :
     (s : List ℕ)
@@ -349,8 +354,14 @@ pub only-its-first-lines-are-rewritten :
     (way : Way) (s t : List ℕ) → Moves way s t → (rest : List ℕ) × (s ≡ firstLines way ++ rest) × (t ≡ firstLines (back way) ++ rest)
 only-its-first-lines-are-rewritten = only-the-first-lines-are-rewritten
 
--- What `day` prints of a sheet is, byte for byte, what it prints of the moved one.
-pub a-moved-sheet-is-printed-alike : (way : Way) (s t : List ℕ) → Moves way s t → dayText s ≡ dayText t
+-- What `day` prints of a sheet between any neighbours' headers is, byte for byte, what it prints of the moved one between them.
+pub a-moved-sheet-is-printed-alike :
+    (way : Way) (s t : List ℕ)
+    → Moves way s t
+    → (before after : List ℕ)
+    → OnePiece before
+    → OnePiece after
+    → dayText (dayInput before s after) ≡ dayText (dayInput before t after)
 a-moved-sheet-is-printed-alike = what-is-printed-stays
 
 -- BACK exactly when 23 or 25 hours go down and nothing else refuses; RANGE at line 1 exactly for the wrong way or another form number.
@@ -371,8 +382,8 @@ a-refused-sheet-writes-nothing = of-a-refused-sheet-nothing-is-written
 -- Of a sheet of any length the front that was read decides, and what is written of it, and then the rest as it comes, is the moved sheet.
 pub the-front-and-the-rest-are-the-moved-sheet :
     (way : Way) (text more : List ℕ)
-    → Decides text (length (squeezed text))
-    → (moveFault way (squeezed text) ≡ moveFault way (text ++ more))
-    × (moveFault way (text ++ more) ≡ clear → movedText way (squeezed text) ++ more ≡ movedText way (text ++ more))
+    → Decides text (length (squeezed 1 text))
+    → (moveFault way (squeezed 1 text) ≡ moveFault way (text ++ more))
+    × (moveFault way (text ++ more) ≡ clear → movedText way (squeezed 1 text) ++ more ≡ movedText way (text ++ more))
 the-front-and-the-rest-are-the-moved-sheet way text more enough =
     (what-came-is-refused-as-the-whole way text more enough, what-came-and-the-rest-is-the-moved-sheet way text more enough)

@@ -1,5 +1,5 @@
--- The demands on one page, those for internal controllable lines on another, the laws that carry theorems over to the texts that are read and printed, document 01's listing from end to end,
--- and small texts that meet the page's conditions.
+-- The demands on one page, those for internal controllable lines on another and request 5's on a third; the laws that carry theorems over to the texts
+-- that are read and printed; document 01's listing from end to end; and small texts that meet the pages' conditions.
 pub mod Blocks
 pub mod Printed
 pub mod Opened
@@ -7,5 +7,7 @@ pub mod Listing
 pub mod Taken
 pub mod Demands
 pub mod LineDemands
+pub mod NeighbourDemands
 pub mod Witness
 pub mod LineWitness
+pub mod NeighbourWitness

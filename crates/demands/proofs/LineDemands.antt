@@ -6,6 +6,8 @@ use mathlib.Core.Bool.{Bool, true, false}
 use mathlib.Core.List.{List, [], _++_}
 use mathlib.Core.Logic.{_↔_}
 use Prim.Native.Nat.{ℕ, suc, _+_, _<_, _≤_}
+use native.Mathlib.Numerals.{one-add}
+use native.Mathlib.Omega.{arith}
 use lib.IntN.{ℤ, pos}
 use lib.ListN.{length, getD}
 use lib.Signed.{ltZ}
@@ -45,7 +47,7 @@ use Rattle.ledger.proofs.IclDayDemands.{
   an-icl-hour-is-eligible-exactly-when-marked,
   an-icl-hour-is-refused-for-reach-exactly-when-some-kilowatt-is-unpriced,
 }
-use Rattle.printed.specs.Printed.{LONGEST, lineText}
+use Rattle.printed.specs.Printed.{plainEnd, LONGEST, lineText}
 use Rattle.printed.proofs.Fits.{line-fits}
 use Rattle.iclsheet.proofs.settle_icl_block.Statement as block
 use Rattle.iclsheet.proofs.settle_icl_block.Met as block-is
@@ -75,13 +77,13 @@ pub no-line-answer-is-cut : (s : List ℕ) → length (lineText s) ≤ LONGEST
 no-line-answer-is-cut = line-fits
 
 -- However long a text is, the bounded part of it that the program keeps gives the same bytes.
-pub what-is-kept-of-a-line-decides : (s : List ℕ) → lineText (keptOf (atFirst PIECES) (squeezed s)) ≡ lineText s
-what-is-kept-of-a-line-decides = kept-page iclFrontOf iclAnswer icl-laws
+pub what-is-kept-of-a-line-decides : (s : List ℕ) → lineText (keptOf (atFirst PIECES) (squeezed 1 s)) ≡ lineText s
+what-is-kept-of-a-line-decides = kept-page plainEnd 1 iclFrontOf iclAnswer icl-laws (omega arith)
 
 -- Once a byte stands behind the last block of the day that a text says, no further byte of it changes one that is printed.
 pub behind-the-last-block-of-a-line-no-byte-matters :
     (s t : List ℕ) → isSome (restAfter (suc (iclFrontOf s .hours)) s) ≡ true → lineText (s ++ t) ≡ lineText s
-behind-the-last-block-of-a-line-no-byte-matters = append-page iclFrontOf iclAnswer icl-laws
+behind-the-last-block-of-a-line-no-byte-matters s t more = append-page plainEnd 1 iclFrontOf iclAnswer icl-laws s t (rw (one-add (iclFrontOf s .hours)) more)
 
 -- A refusal leaves the lent row untouched.
 pub a-refused-line-leaves-the-row :

@@ -43,7 +43,7 @@ use Rattle.ledger.specs.Demand.{same, apart, priced}
 use Rattle.ledger.specs.IclDemand.{IclBlocksApart, IclDaysApart, IclBothRead}
 use Rattle.ledger.proofs.IclFront.{icl-count, icl-marked, icl-behind}
 use Rattle.ledger.proofs.IclDayDemands.{an-icl-hour-of-a-day-is-its-blocks, icl-days-with-one-header-are-apart}
-use Rattle.printed.specs.Printed.{dayPage, lineText}
+use Rattle.printed.specs.Printed.{plainEnd, dayPage, lineText}
 use Rattle.demands.specs.Small.{curves, plain, other, longer, plainRead, otherRead, longerRead}
 use Rattle.demands.specs.LineSmall.{lineFirst, lineRest, lineBlock, lineHour, lineHeader, lineDay}
 use Rattle.demands.proofs.Opened.{cutting}
@@ -162,7 +162,7 @@ same-read h g e = cc
 
 -- a day of one hour, which is eligible
 abbrev oneHour : (da : List ℕ) → Front
-oneHour da = record { fault = clear; hours = 1; isExcluded = λ k. false; body = lineBlock da; answer = iclAnswer }
+oneHour da = record { fault = clear; header = 0; hours = 1; isExcluded = λ k. false; body = lineBlock da; answer = iclAnswer }
 
 module _ {da : List ℕ} {c : Curve} (t : Stands da c) where
   lines-apart : IclCurvesApart (lineBlock plain) (lineBlock da)
@@ -255,7 +255,7 @@ this-line-day-is-paid zero u = record {
 }
 this-line-day-is-paid (suc k) u = absurd (omega arith)
 
-pub curve-is-added-to-this-line-day : dayPage (oneHour plain) ≡ dayPage (oneHour longer)
+pub curve-is-added-to-this-line-day : dayPage plainEnd (oneHour plain) ≡ dayPage plainEnd (oneHour longer)
 curve-is-added-to-this-line-day =
     curve-added-to-a-line-day (oneHour plain) (oneHour longer) days-apart this-line-day-is-paid
     (as-read longer-stands (oneHour plain) (oneHour longer) refl refl _

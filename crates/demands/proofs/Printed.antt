@@ -2,12 +2,10 @@
 use mathlib.Core.Path.{_≡_, refl, sym, _∙_, ap}
 use mathlib.Core.Bool.{true, false}
 use mathlib.Core.List.{List, _++_}
-use Prim.Native.Nat.{ℕ, suc, _<_}
+use Prim.Native.Nat.{ℕ, suc, _+_, _≤_, _<_}
 use native.Mathlib.Omega.{arith}
 use lib.IntN.{ℤ, pos}
 use lib.ListN.{take, replicate}
-use Rattle.exact.specs.Whole.{upTo}
-use Rattle.exact.proofs.Sums.{up-same}
 use Rattle.tariff.specs.declared.Hour.{Hour}
 use Rattle.tariff.specs.declared.Expected.the-variants.{Any, Says}
 use Rattle.tariff.specs.Total.{Pays}
@@ -21,7 +19,7 @@ use Rattle.sheet.specs.Settle.{replyTo, rowTo, hourSaid, countSaid}
 use Rattle.sheet.specs.Apart.{CurvesApart}
 use Rattle.sheet.proofs.BlockDemands.{curves-apart-are-alike, first-bytes-decide}
 use Rattle.ledger.specs.Day.{BlockAnswer, Front, dayReply}
-use Rattle.ledger.specs.Demand.{SettledAlike, PricedAlike, DaysApart, BothRead}
+use Rattle.ledger.specs.Demand.{PricedAlike, DaysApart, BothRead}
 use Rattle.ledger.specs.IclDemand.{IclPricedAlike, IclDaysApart, IclBothRead}
 use Rattle.ledger.proofs.AnyFront.{FrontLaws, kept-settled, append-settled}
 use Rattle.ledger.proofs.DayDemands.{only-needed-prices-of-a-day-matter, adding-curve-to-a-day-changes-nothing}
@@ -29,8 +27,8 @@ use Rattle.ledger.proofs.IclDayDemands as icl
 use Rattle.imports.specs.Import.{hoursIn}
 use Rattle.imports.proofs.ImportDemands as imports
 use Rattle.answers.specs.Answers.{answerText, importLine}
-use Rattle.printed.specs.Printed.{contributionsOf, hourText, dayPage, importText}
-use Rattle.printed.proofs.Texts.{hour-text, day-page}
+use Rattle.printed.specs.Printed.{contributionsOf, hourText, dayPage, headerEnd, plainEnd, importText}
+use Rattle.printed.proofs.Texts.{hour-text, printed-alike}
 
 -- ---- `hour`
 
@@ -58,40 +56,34 @@ module _ (s t : List ℕ) (h g : Hour) (o : CurvesApart s t) (x : blockOf s ≡ 
 
 -- ---- `day`
 
-pub same-day : (f g : Front) → SettledAlike f g → dayPage f ≡ dayPage g
-unfolding dayPage
-same-day f g o =
-    let answers = up-same (dayReply f) (dayReply g) (f .hours) (o .answers) in
-    day-page g (o .fault) (answers ∙ ap (upTo (dayReply g)) (o .hours)) (o .total)
-
 -- two days that differ in their curve lines only, whatever stands in front of their blocks
 module _ (f g : Front) (apart : DaysApart f g) where
-  pub days-printed-alike : BothRead f g (λ k h j. PricedAlike h j (f .isExcluded k) (Says (pos k) (f .hours))) → dayPage f ≡ dayPage g
-  days-printed-alike priced = same-day f g (only-needed-prices-of-a-day-matter f g apart priced)
+  pub days-printed-alike : BothRead f g (λ k h j. PricedAlike h j (f .isExcluded k) (Says (pos k) (f .hours))) → dayPage headerEnd f ≡ dayPage headerEnd g
+  days-printed-alike priced = printed-alike headerEnd f g (only-needed-prices-of-a-day-matter f g apart priced)
 
   pub curve-added-to-a-day : ((k : ℕ) → k < f .hours → Pays (dayReply f k))
-      → BothRead f g (λ k h j. Lawful j (Says (pos k) (f .hours)) × Extends (h .da) (j .da) × Extends (h .rt) (j .rt)) → dayPage f ≡ dayPage g
-  curve-added-to-a-day pays longer = same-day f g (adding-curve-to-a-day-changes-nothing f g apart pays longer)
+      → BothRead f g (λ k h j. Lawful j (Says (pos k) (f .hours)) × Extends (h .da) (j .da) × Extends (h .rt) (j .rt)) → dayPage headerEnd f ≡ dayPage headerEnd g
+  curve-added-to-a-day pays longer = printed-alike headerEnd f g (adding-curve-to-a-day-changes-nothing f g apart pays longer)
 
--- what is kept of a text of any kind, and a text with bytes more behind it
-module _ (front : List ℕ → Front) (answer : BlockAnswer) (laws : FrontLaws front answer) where
-  pub kept-page : (s : List ℕ) → dayPage (front (keptOf (atFirst PIECES) (squeezed s))) ≡ dayPage (front s)
-  kept-page s =
+-- what is kept of a text of any kind, which has three headers at most, and a text with bytes more behind it
+module _ (ending : ℕ → List ℕ) (heads : ℕ) (front : List ℕ → Front) (answer : BlockAnswer) (laws : FrontLaws heads front answer) where
+  pub kept-page : heads ≤ 3 → (s : List ℕ) → dayPage ending (front (keptOf (atFirst PIECES) (squeezed heads s))) ≡ dayPage ending (front s)
+  kept-page h s =
       let few = laws .few s in
-      same-day (front (keptOf (atFirst PIECES) (squeezed s))) (front s) (kept-settled front answer laws s PIECES (omega arith))
+      printed-alike ending (front (keptOf (atFirst PIECES) (squeezed heads s))) (front s) (kept-settled heads front answer laws s PIECES (omega arith))
 
-  pub append-page : (s t : List ℕ) → isSome (restAfter (suc (front s .hours)) s) ≡ true → dayPage (front (s ++ t)) ≡ dayPage (front s)
-  append-page s t more = same-day (front (s ++ t)) (front s) (append-settled front answer laws s t more)
+  pub append-page : (s t : List ℕ) → isSome (restAfter (heads + front s .hours) s) ≡ true → dayPage ending (front (s ++ t)) ≡ dayPage ending (front s)
+  append-page s t more = printed-alike ending (front (s ++ t)) (front s) (append-settled heads front answer laws s t more)
 
 -- ---- `line`
 
 module _ (f g : Front) (apart : IclDaysApart f g) where
-  pub line-days-printed-alike : IclBothRead f g (λ k h j. IclPricedAlike h j (f .isExcluded k) (Says (pos k) (f .hours))) → dayPage f ≡ dayPage g
-  line-days-printed-alike priced = same-day f g (icl.only-needed-prices-of-an-icl-day-matter f g apart priced)
+  pub line-days-printed-alike : IclBothRead f g (λ k h j. IclPricedAlike h j (f .isExcluded k) (Says (pos k) (f .hours))) → dayPage plainEnd f ≡ dayPage plainEnd g
+  line-days-printed-alike priced = printed-alike plainEnd f g (icl.only-needed-prices-of-an-icl-day-matter f g apart priced)
 
   pub curve-added-to-a-line-day : ((k : ℕ) → k < f .hours → Pays (dayReply f k))
-      → IclBothRead f g (λ k h j. IclLawful j (Says (pos k) (f .hours)) × Extends (h .da) (j .da) × Extends (h .rt) (j .rt)) → dayPage f ≡ dayPage g
-  curve-added-to-a-line-day pays longer = same-day f g (icl.adding-curve-to-an-icl-day-changes-nothing f g apart pays longer)
+      → IclBothRead f g (λ k h j. IclLawful j (Says (pos k) (f .hours)) × Extends (h .da) (j .da) × Extends (h .rt) (j .rt)) → dayPage plainEnd f ≡ dayPage plainEnd g
+  curve-added-to-a-line-day pays longer = printed-alike plainEnd f g (icl.adding-curve-to-an-icl-day-changes-nothing f g apart pays longer)
 
 -- ---- `import`
 

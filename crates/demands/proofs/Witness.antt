@@ -18,7 +18,6 @@ use Rattle.tariff.specs.declared.Expected.the-variants.{Any, Says}
 use Rattle.tariff.specs.Sheet.{isHour, endOf, priceOf}
 use Rattle.tariff.specs.Curve.{known, quote}
 use Rattle.tariff.specs.Reply.{paid, clear}
-use Rattle.tariff.specs.Eligible.{excluded}
 use Rattle.tariff.specs.Checks.{hoursAround}
 use Rattle.tariff.specs.Hour.{order, reply}
 use Rattle.tariff.specs.Total.{Pays}
@@ -30,12 +29,14 @@ use Rattle.lines.specs.Pieces.{restAfter, firstPiece, piece, isSome}
 use Rattle.blocks.specs.Block.{Block, blockOf, read}
 use Rattle.sheet.specs.Settle.{replyTo}
 use Rattle.sheet.specs.Apart.{InThree, CurvesApart}
-use Rattle.header.specs.Header.{marksOf}
 use Rattle.ledger.specs.Day.{generatorAnswer, Front, frontOf, dayReply}
+use Rattle.ledger.specs.Stored.{lacking, dayInput}
 use Rattle.ledger.specs.Demand.{BlocksApart, same, apart, priced, DaysApart, BothRead}
 use Rattle.ledger.proofs.HourOfDay.{read-reply}
-use Rattle.ledger.proofs.SheetFront.{front-append}
-use Rattle.ledger.proofs.DayDemands.{sheets-with-one-header-are-apart}
+use Rattle.ledger.proofs.AnyFront.{SameFront}
+use Rattle.ledger.proofs.FrontAlone.{front-stays, front-behind}
+use Rattle.ledger.proofs.DayDemands.{days-with-the-same-headers-are-apart}
+use Rattle.ledger.proofs.MidnightDemands.{an-empty-line-is-one-piece}
 use Rattle.imports.specs.Import.{countIn, hoursIn}
 use Rattle.lines.specs.Squeezed.{squeezed}
 use Rattle.intake.specs.Squeeze.{squeezeNext, squeezeAfter}
@@ -44,8 +45,8 @@ use Rattle.intake.specs.Front.Decides.{closed}
 use Rattle.archive.specs.declared.Way.the-variants.{Up, Down}
 use Rattle.archive.specs.Move.{moveFault, Moves}
 use Rattle.archive.specs.Examples.{one, two, goes-up}
-use Rattle.printed.specs.Printed.{hourText, dayPage, dayText, importText}
-use Rattle.demands.specs.Small.{first, curves, rest, block, hour, header, day, plain, other, longer, plainRead, otherRead, longerRead}
+use Rattle.printed.specs.Printed.{headerEnd, hourText, dayPage, dayText, importText}
+use Rattle.demands.specs.Small.{first, curves, rest, block, hour, headers, day, plain, other, longer, plainRead, otherRead, longerRead}
 use Rattle.demands.proofs.Opened.{reading, cutting, judging, pricing, checking, settling}
 use Rattle.demands.proofs.Demands.{
   behind-the-last-block-no-byte-matters,
@@ -78,21 +79,21 @@ longer-stands : Stands longer longerRead
 unfolding reading cutting
 longer-stands = record { three = record { parts = refl; line1 = refl; lines23 = refl }; reads = refl; whole = refl; ends = refl }
 
-header-clear : frontOf header .fault ≡ clear
-unfolding judging
-header-clear = refl
+headers-clear : frontOf headers .fault ≡ clear
+unfolding judging cutting
+headers-clear = refl
 
-header-alone : frontOf header .body ≡ []
-unfolding judging
-header-alone = refl
+headers-alone : frontOf headers .body ≡ []
+unfolding judging cutting
+headers-alone = refl
 
-header-hours : frontOf header .hours ≡ 23
-unfolding judging
-header-hours = refl
+headers-hours : frontOf headers .hours ≡ 23
+unfolding judging cutting
+headers-hours = refl
 
-header-eligible : excluded (frontOf header .hours) (marksOf header) 0 ≡ false
-unfolding judging
-header-eligible = refl
+headers-eligible : frontOf headers .isExcluded 0 ≡ false
+unfolding judging cutting
+headers-eligible = refl
 
 -- ---- no check from 1 to 4 refuses them, in `hour` or as block 0 of a day, and the first is paid
 
@@ -172,23 +173,27 @@ no-block : (h : Hour) → blockOf [] ≡ read h → ⊥
 unfolding reading
 no-block h e = impossible cc
 
--- ---- two blocks, two sheets of a day of 23 hours that have one, and two days of one hour
+-- ---- two blocks, two days of 23 hours that have one, and two days of one hour
 
 same-read : (h g : Hour) → read h ≡ read g → h ≡ g
 same-read h g e = cc
 
--- a sheet's front is its header
-front-is : (da : List ℕ)
-    → frontOf (day da)
-    ≡ record { fault = clear; hours = frontOf header .hours; isExcluded = excluded (frontOf header .hours) (marksOf header); body = block da; answer = generatorAnswer }
-front-is da = front-append header header-clear header-alone (block da)
+-- the headers stand in front of every day that begins with them
+same-headers : (body : List ℕ) → SameFront (frontOf (headers ++ body)) (frontOf headers)
+same-headers = front-stays headers headers-clear
+
+day-hours : (body : List ℕ) → frontOf (headers ++ body) .hours ≡ 23
+day-hours body = same-headers body .hours ∙ headers-hours
+
+day-body : (da : List ℕ) → frontOf (day da) .body ≡ block da
+day-body da = front-behind headers headers-clear (block da) headers-alone
 
 eligible : frontOf (day plain) .isExcluded 0 ≡ false
-eligible = ap (λ (f : Front). f .isExcluded 0) (front-is plain) ∙ header-eligible
+eligible = same-headers (block plain) .isExcluded 0 (rw headers-hours (omega arith)) ∙ headers-eligible
 
 -- a day of one hour, which is eligible
 abbrev oneHour : (da : List ℕ) → Front
-oneHour da = record { fault = clear; hours = 1; isExcluded = λ k. false; body = block da; answer = generatorAnswer }
+oneHour da = record { fault = clear; header = 0; hours = 1; isExcluded = λ k. false; body = block da; answer = generatorAnswer }
 
 module _ {da : List ℕ} {c : Curve} (t : Stands da c) where
   lines-apart : CurvesApart (block plain) (block da)
@@ -215,7 +220,7 @@ module _ {da : List ℕ} {c : Curve} (t : Stands da c) where
         rw (← e, ← q) p
     as-read P p (suc k) u h j x y = absurd (no-block h (rw (one, none-behind plain-stands k) at x))
 
--- ---- a block that is paid, a sheet whose header is clear and whose block is read, and a day that is paid
+-- ---- a block that is paid, a day whose headers are clear and whose block is read, and a day that is paid
 
 pub this-block-is-paid : Pays (replyTo (blockOf (block plain)) false Any 30)
 this-block-is-paid = record {
@@ -224,8 +229,8 @@ this-block-is-paid = record {
   pays = ap (λ (b : Block). replyTo b false Any 30) (plain-stands .reads) ∙ plain-paid Any refl any-hour;
 }
 
-pub this-sheet-is-read : (frontOf (day plain) .fault ≡ clear) × (frontOf (day plain) .hours ≡ 23)
-this-sheet-is-read = (ap (λ (f : Front). f .fault) (front-is plain), ap (λ (f : Front). f .hours) (front-is plain) ∙ header-hours)
+pub this-day-is-read : (frontOf (day plain) .fault ≡ clear) × (frontOf (day plain) .hours ≡ 23)
+this-day-is-read = (same-headers (block plain) .fault ∙ headers-clear, day-hours (block plain))
 
 this-day-is-paid : (k : ℕ) → k < 1 → Pays (dayReply (oneHour plain) k)
 this-day-is-paid zero u = record {
@@ -244,17 +249,14 @@ these-blocks-are-printed-alike =
     such-blocks-are-printed-alike (block plain) (block other) (hour plainRead) (hour otherRead)
     (lines-apart other-stands) (plain-stands .reads) (other-stands .reads) (plain-clear Any refl any-hour) (other-clear Any refl any-hour) agree
 
-pub these-sheets-are-printed-alike : dayText (day plain) ≡ dayText (day other)
-these-sheets-are-printed-alike =
+pub these-days-are-printed-alike : dayText (day plain) ≡ dayText (day other)
+these-days-are-printed-alike =
     such-days-are-printed-alike (day plain) (day other)
-    (sheets-with-one-header-are-apart header (block plain) (block other) header-clear header-alone
+    (days-with-the-same-headers-are-apart headers (block plain) (block other) headers-clear headers-alone
     (λ k u. pieces-apart other-stands k)
-    (rw header-hours (none-behind plain-stands 22 ∙ sym (none-behind other-stands 22))))
-    (as-read other-stands (frontOf (day plain)) (frontOf (day other)) (body plain) (body other) _
-    (rw (eligible, this-sheet-is-read .1) (priced (plain-clear (Says (pos 0) 23) refl (hour-0 23)) (other-clear (Says (pos 0) 23) refl (hour-0 23)) agree)))
-  where
-    body : (da : List ℕ) → frontOf (day da) .body ≡ block da
-    body da = ap (λ (f : Front). f .body) (front-is da)
+    (rw headers-hours (none-behind plain-stands 22 ∙ sym (none-behind other-stands 22))))
+    (as-read other-stands (frontOf (day plain)) (frontOf (day other)) (day-body plain) (day-body other) _
+    (rw (eligible, this-day-is-read .1) (priced (plain-clear (Says (pos 0) 23) refl (hour-0 23)) (other-clear (Says (pos 0) 23) refl (hour-0 23)) agree)))
 
 pub curve-is-added-to-this-block : hourText (block plain) ≡ hourText (block longer)
 curve-is-added-to-this-block =
@@ -262,7 +264,7 @@ curve-is-added-to-this-block =
     (lines-apart longer-stands) (plain-stands .reads) (longer-stands .reads) (longer-clear Any refl any-hour) extended (unchanged emptyCurve)
     this-block-is-paid
 
-pub curve-is-added-to-this-day : dayPage (oneHour plain) ≡ dayPage (oneHour longer)
+pub curve-is-added-to-this-day : dayPage headerEnd (oneHour plain) ≡ dayPage headerEnd (oneHour longer)
 curve-is-added-to-this-day =
     curve-added-to-a-day (oneHour plain) (oneHour longer) days-apart this-day-is-paid
     (as-read longer-stands (oneHour plain) (oneHour longer) refl refl _
@@ -280,22 +282,19 @@ curve-is-added-to-this-day =
       surplus = none-behind plain-stands 0 ∙ sym (none-behind longer-stands 0);
     }
 
--- a sheet of 23 empty blocks and an import of 24, and a line feed behind the last
-abbrev longSheet : List ℕ
-longSheet = header ++ replicate 24 LF
+-- a day of 23 empty blocks and an import of 24, and a line feed behind the last
+abbrev longDay : List ℕ
+longDay = headers ++ replicate 24 LF
 
 abbrev longImport : List ℕ
 longImport = bytes "import=1 cts=0\n\n" ++ replicate 25 LF
 
-long-hours : frontOf longSheet .hours ≡ 23
-long-hours = ap (λ (f : Front). f .hours) (front-append header header-clear header-alone (replicate 24 LF)) ∙ header-hours
-
-behind-this-sheet : isSome (restAfter 24 longSheet) ≡ true
+behind-this-day : isSome (restAfter 26 longDay) ≡ true
 unfolding cutting
-behind-this-sheet = refl
+behind-this-day = refl
 
-pub no-byte-matters-behind-this-sheet : (t : List ℕ) → dayText (longSheet ++ t) ≡ dayText longSheet
-no-byte-matters-behind-this-sheet t = behind-the-last-block-no-byte-matters longSheet t .0 (rw long-hours behind-this-sheet)
+pub no-byte-matters-behind-this-day : (t : List ℕ) → dayText (longDay ++ t) ≡ dayText longDay
+no-byte-matters-behind-this-day t = behind-the-last-block-no-byte-matters longDay t .0 (rw (day-hours (replicate 24 LF)) behind-this-day)
 
 behind-this-import : isSome (restAfter (suc (hoursIn longImport)) longImport) ≡ true
 unfolding cutting reading hoursIn countIn
@@ -308,12 +307,12 @@ no-byte-matters-behind-this-import t = behind-the-last-block-no-byte-matters lon
 moved-comes-back : Moves Down two one
 moved-comes-back = a-moved-sheet-comes-back Up one two goes-up
 
-moved-printed-alike : dayText one ≡ dayText two
-moved-printed-alike = a-moved-sheet-is-printed-alike Up one two goes-up
+moved-printed-alike : dayText (dayInput lacking one lacking) ≡ dayText (dayInput lacking two lacking)
+moved-printed-alike = a-moved-sheet-is-printed-alike Up one two goes-up lacking lacking an-empty-line-is-one-piece an-empty-line-is-one-piece
 
-one-decides : Decides one (length (squeezed one))
+one-decides : Decides one (length (squeezed 1 one))
 unfolding squeezeAfter squeezeNext
 one-decides = closed refl
 
-read-in-parts : (more : List ℕ) → moveFault Up (squeezed one) ≡ moveFault Up (one ++ more)
+read-in-parts : (more : List ℕ) → moveFault Up (squeezed 1 one) ≡ moveFault Up (one ++ more)
 read-in-parts more = the-front-and-the-rest-are-the-moved-sheet Up one more one-decides .0

@@ -49,8 +49,12 @@ header = bytes "form=2\nhours=23\nunit=1\nrtc=0\n"
     ++ bytes "cat=11111111111111111111111\nx1=00000000000000000000000\nx2=00000000000000000000000\nx3=00000000000000000000000\n"
     ++ bytes "x4=00000000000000000000000\nx5=00000000000000000000000\nx6=00000000000000000000000\n\n"
 
+-- the day before has the same header, and the day after is lacking
+abbrev pub headers : List ℕ
+headers = header ++ header ++ bytes "\n"
+
 abbrev pub day : (da : List ℕ) → List ℕ
-day da = header ++ block da
+day da = headers ++ block da
 
 -- ---- the curves: to kilowatt 2 at one price, with another price below it, and longer
 

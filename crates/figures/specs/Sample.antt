@@ -7,7 +7,7 @@ use Rattle.tariff.specs.declared.Curve.{Curve}
 use Rattle.tariff.specs.declared.DayAhead.{DayAhead}
 use Rattle.tariff.specs.declared.Interval.{Interval}
 use Rattle.tariff.specs.declared.Hour.{Hour}
-use Rattle.tariff.specs.declared.Marks.{Marks}
+use Rattle.tariff.specs.declared.MarkedDay.{MarkedDay}
 use Rattle.tariff.specs.declared.Uol.{Uol}
 use Rattle.tariff.specs.declared.Uol.the-variants.{Missing, At}
 use Rattle.tariff.specs.Units.{kw, price, movePrice, seconds}
@@ -128,18 +128,12 @@ overDerated =
     emptyCurve
     (idleQuarter (At (kw (pos 0))) (pos 1) (pos 0) (pos 0) (pos 0))
 
--- P10: category (i) everywhere, and x4 at hour 5 alone
-abbrev pub marks : Marks
-marks =
+-- P10: a day of 24 hours, category (i) everywhere, and x4 at hour 5 alone
+abbrev pub marked : MarkedDay
+marked =
     record {
-      rtc = false;
-      cat = replicate 24 1;
-      x1 = 0;
-      x2 = 0;
-      x3 = 0;
-      x4 = 32;
-      x5 = 0;
-      x6 = 0;
+      hours = 24;
+      marks = record { rtc = false; cat = replicate 24 1; x1 = 0; x2 = 0; x3 = 0; x4 = 32; x5 = 0; x6 = 0 };
     }
 
 -- the run: the curve ends one kilowatt below the day-ahead schedule

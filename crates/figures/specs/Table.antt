@@ -15,13 +15,13 @@ use Rattle.tariff.specs.Units.{centsOf}
 use Rattle.tariff.specs.Sheet.{allTo, aheadInRange, curveInRange, intervalInRange, curveKeeps}
 use Rattle.tariff.specs.Curve.{quoteFrom, quote, sumUp, integral}
 use Rattle.tariff.specs.Reply.{Reply, paid, refused, firstOf}
-use Rattle.tariff.specs.Eligible.{someTo, excluded}
+use Rattle.tariff.specs.Eligible.{someTo, excluded, noDay}
 use Rattle.tariff.specs.Derate.{redTot, potRed, floorOf, remainder, leftOver, one, share, exceedsRoom, reduced}
 use Rattle.tariff.specs.Contributions.{lowerLimit, upperLimit, energyBy, reserve, regulation, movement, otherThanEnergy}
 use Rattle.tariff.specs.Checks.{formIn, rangeIn, orderIn, curvesIn, secondsIn}
 use Rattle.tariff.specs.Hour.{interval, outcome, outcomeAt, reply}
 use Rattle.tariff.specs.Outcome.{Outcome, gives, stops, firstStop, replyBy}
-use Rattle.figures.specs.Sample.{worked, withdrawing, moving, derating, overDerated, marks, shortCurve}
+use Rattle.figures.specs.Sample.{worked, withdrawing, moving, derating, overDerated, marked, shortCurve}
 use Rattle.figures.specs.Worked.{worked-gives, worked-paid}
 
 -- ---- a row, and what the table claims
@@ -91,7 +91,7 @@ figures =
     ∷ (P 9 is five (share (potRedIn derating) (redTotIn derating)) prints (pos 6667 ∷ pos 3333 ∷ pos 0 ∷ pos 0 ∷ pos 0 ∷ []))
     ∷ (P 9 is pos (redTotIn overDerated) ∷ five (potRedIn overDerated) prints (pos 30001 ∷ pos 20000 ∷ pos 10000 ∷ pos 0 ∷ pos 0 ∷ pos 0 ∷ []))
     ∷ (P 9 is whole overDerated prints (pos 6 ∷ pos 1 ∷ []))
-    ∷ (P 10 is upTo (λ h. pos (one (excluded 24 marks h))) 24 prints (replicate 3 (pos 0) ++ replicate 5 (pos 1) ++ replicate 16 (pos 0)))
+    ∷ (P 10 is upTo (λ h. pos (one (excluded noDay marked noDay h))) 24 prints (replicate 3 (pos 0) ++ replicate 5 (pos 1) ++ replicate 16 (pos 0)))
     ∷ (P 11 is whole shortCurve prints (pos 7 ∷ pos 1 ∷ []))
     ∷ []
 

@@ -124,6 +124,11 @@ unfolding allTo
 unit-behind true = unit-in (form2 true) 2 refl (λ j. let e : 2 + j ≡ suc (suc j) = omega arith in rw e) refl
 unit-behind false = unit-in form1 1 refl (λ j. let e : 1 + j ≡ suc j = omega arith in rw e) refl
 
+-- so does that of `unit`, whether the rows are judged or not
+pub unit-line : (two judged : Bool) → lineOf UNIT-LINE (layoutBy (formBy two) true) ≡ lineOf UNIT-LINE (layoutBy (formBy two) judged)
+unit-line true judged = refl
+unit-line false judged = refl
+
 -- ---- the count
 
 -- a form that says it does so on the line behind its first

@@ -23,7 +23,7 @@ use Rattle.marks.proofs.Rows.{word-same}
 use Rattle.header.specs.declared.layout.Line.{Line}
 use Rattle.header.specs.declared.layout.Line.the-variants.{Number, Row, Run, Close}
 use Rattle.header.specs.Layout.{lineIn, headerLine, linePlace, numberFrom, digitFrom, lineInRange, layoutForm, layoutRange, layoutFault, numberOn, digitOn}
-use Rattle.header.specs.Header.{isForm2, hoursOf, headerFault, rowWord, marksBy, marksUnder}
+use Rattle.header.specs.Header.{isForm2, hoursOf, headerFault, unitOf, rowWord, marksBy, marksUnder}
 use Rattle.header.proofs.HeaderLines.{none-refused, isPlaced}
 use Rattle.header.proofs.Forms.{RowOn, Rows}
 
@@ -195,9 +195,16 @@ pub record SameHeader (s t : List ℕ) : Type 0 where
   pub fault : headerFault s ≡ headerFault t
   pub hours : hoursOf s ≡ hoursOf t
   pub marks : marksUnder (headerFault s) s ≡ marksUnder (headerFault t) t
+  pub unit : unitOf s ≡ unitOf t
 
 pub same-turned : {s t : List ℕ} → SameHeader s t → SameHeader t s
-same-turned o = record { two = sym (o .two); fault = sym (o .fault); hours = sym (o .hours); marks = sym (o .marks) }
+same-turned o = record { two = sym (o .two); fault = sym (o .fault); hours = sym (o .hours); marks = sym (o .marks); unit = sym (o .unit) }
 
 pub same-then : {s t u : List ℕ} → SameHeader s t → SameHeader t u → SameHeader s u
-same-then o r = record { two = o .two ∙ r .two; fault = o .fault ∙ r .fault; hours = o .hours ∙ r .hours; marks = o .marks ∙ r .marks }
+same-then o r = record {
+  two = o .two ∙ r .two;
+  fault = o .fault ∙ r .fault;
+  hours = o .hours ∙ r .hours;
+  marks = o .marks ∙ r .marks;
+  unit = o .unit ∙ r .unit;
+}

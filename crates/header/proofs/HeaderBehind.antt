@@ -6,7 +6,7 @@ use Prim.Native.Nat.{ℕ, zero, suc, _+_, _≤_, _<_}
 use native.Mathlib.Nat.{add-zero}
 use native.Mathlib.Omega.{arith}
 use borrow.Author.Tests.{ltb-true}
-use lib.Dec.{ltb}
+use lib.Dec.{ltb, lit<}
 use lib.ListN.{drop, length}
 use Rattle.tariff.specs.Sheet.{LONGEST-DAY, isCount, allTo}
 use Rattle.tariff.specs.Reply.{clear}
@@ -110,6 +110,13 @@ module _ (layout : List Line) (o : Closed layout) (hours : ℕ) (s : List ℕ) (
       absurd (never-at (sym (line-closed hours (lineIn layout j) s i (o .front j u) (ap closing f)) ∙ line-read layout hours s e j inside)))
       ∙ ap (λ (k : ℕ). emptyIn true (drop k s) k) (line .next)
 
+  -- so the first is not empty
+  first-opens : 0 < o .last → byteAt s 0 ≡ 10 → ⊥
+  unfolding linePlace
+  first-opens u f =
+      never-at
+      (sym (line-closed hours (lineIn layout 0) s 0 (o .front 0 u) (ap closing f)) ∙ line-read layout hours s e 0 (let l = o .long in omega arith))
+
   lines-passed : (j : ℕ) → j ≤ o .last → from 0 ≡ from j
   lines-passed zero u = refl
   lines-passed (suc j) u = lines-passed j (omega arith) ∙ line-passed j (omega arith)
@@ -127,6 +134,19 @@ module _ (form : Form) (s : List ℕ) (e : faultIn form s ≡ clear) where
   pub ends-empty : emptyIn true s 0 ≡ At (nextIn form (faultIn form s) s)
   ends-empty =
       rw e (first-empty (layoutIn form s) (layout-closed form (isCount (countBy form s))) (hoursIn form s) s (form-clear (layoutIn form s) (hoursIn form s) s e))
+
+  pub not-empty : byteAt s 0 ≡ 10 → ⊥
+  unfolding layout-closed closed
+  not-empty =
+      let judged = isCount (countBy form s) in
+      first-opens (layoutIn form s) (layout-closed form judged) (hoursIn form s) s (form-clear (layoutIn form s) (hoursIn form s) s e) (some form judged)
+    where
+      some : (f : Form) (judged : Bool) → 0 < layout-closed f judged .last
+      some One judged = lit< tt
+      some Two true = lit< tt
+      some Two false = lit< tt
+      some Icl true = lit< tt
+      some Icl false = lit< tt
 
   pub what-follows : drop (nextIn form (faultIn form s) s) s ≡ behind s
   what-follows = behind-at s 0 _ ends-empty

@@ -103,9 +103,6 @@ pub inside : (form : Form) (v : Verdict) (s : List ℕ) → nextIn form v s ≤ 
 inside form clear s = places-inside (layoutIn form s) (hoursIn form s) s (length (layoutIn form s))
 inside form (fault number place) s = omega arith
 
-pub next-inside : (v : Verdict) (s : List ℕ) → nextUnder v s ≤ length s
-next-inside v s = inside (formOf s) v s
-
 -- where nothing stands behind a header it ends with the text
 pub ends-text : (form : Form) (v : Verdict) (s : List ℕ) → drop (nextIn form v s) s ≡ [] → nextIn form v s ≡ length s
 ends-text form v s alone =

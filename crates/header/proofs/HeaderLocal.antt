@@ -1,7 +1,8 @@
--- A header is decided by its first bytes, and by its first piece, where these are those of the squeezed text: a line of it has at most 48 bytes.
+-- A header is decided by its first bytes, and by its first piece, where these are those of the squeezed text: a line of it has at most 48 bytes. How
+-- many other headers are squeezed too does not matter.
 use mathlib.Core.Path.{_≡_, sym, _∙_, ap}
 use mathlib.Core.List.{List}
-use Prim.Native.Nat.{ℕ, _<_}
+use Prim.Native.Nat.{ℕ, suc, _<_}
 use native.Mathlib.Omega.{arith}
 use lib.ListN.{take}
 use lib.Seq.{getD-take}
@@ -13,17 +14,18 @@ use Rattle.header.proofs.HeaderSame.{AlikeInAll, all-turned, all-then, 
 use Rattle.header.proofs.HeaderFirst.{firsts-alike}
 use Rattle.header.proofs.HeaderSqueezed.{squeezed-alike, itself-squeezed}
 
-pub bytes-alike : (got s : List ℕ) → take PIECE got ≡ take PIECE (squeezed s) → AlikeInAll got s
-bytes-alike got s e = all-turned (squeezed-alike s got PIECE (omega arith) agree)
-  where
-    agree : (i : ℕ) → i < PIECE → byteAt got i ≡ byteAt (squeezed s) i
-    agree i h = sym (getD-take PIECE got i 256 h) ∙ ap (λ (l : List ℕ). byteAt l i) e ∙ getD-take PIECE (squeezed s) i 256 h
+module _ (others : ℕ) (got s : List ℕ) where
+  pub bytes-alike : take PIECE got ≡ take PIECE (squeezed (suc others) s) → AlikeInAll got s
+  bytes-alike e = all-turned (squeezed-alike others s got PIECE (omega arith) agree)
+    where
+      agree : (i : ℕ) → i < PIECE → byteAt got i ≡ byteAt (squeezed (suc others) s) i
+      agree i h = sym (getD-take PIECE got i 256 h) ∙ ap (λ (l : List ℕ). byteAt l i) e ∙ getD-take PIECE (squeezed (suc others) s) i 256 h
 
-pub piece-alike : (got s : List ℕ) → firstPiece got ≡ firstPiece (squeezed s) → AlikeInAll got s
-piece-alike got s e = all-then (firsts-alike got (squeezed s) e) (itself-squeezed s)
+  pub piece-alike : firstPiece got ≡ firstPiece (squeezed (suc others) s) → AlikeInAll got s
+  piece-alike e = all-then (firsts-alike got (squeezed (suc others) s) e) (itself-squeezed others s)
 
-pub bytes-header : (got s : List ℕ) → take PIECE got ≡ take PIECE (squeezed s) → SameHeader got s
-bytes-header got s e = same-header (bytes-alike got s e)
+  pub bytes-header : take PIECE got ≡ take PIECE (squeezed (suc others) s) → SameHeader got s
+  bytes-header e = same-header (bytes-alike e)
 
-pub piece-header : (got s : List ℕ) → firstPiece got ≡ firstPiece (squeezed s) → SameHeader got s
-piece-header got s e = same-header (piece-alike got s e)
+  pub piece-header : firstPiece got ≡ firstPiece (squeezed (suc others) s) → SameHeader got s
+  piece-header e = same-header (piece-alike e)

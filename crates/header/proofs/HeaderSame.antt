@@ -14,7 +14,7 @@ use Rattle.tariff.specs.Sheet.{LONGEST-DAY, isCount, hoursBy}
 use Rattle.tariff.proofs.Counts.{hours-few}
 use Rattle.text.specs.declared.Next.{Next}
 use Rattle.text.specs.declared.Next.the-variants.{At, Wrong}
-use Rattle.keys.specs.Keys.{RTC-LINE}
+use Rattle.keys.specs.Keys.{UNIT-LINE, RTC-LINE}
 use Rattle.lines.specs.Line.{isAt, andThen, lineFeed}
 use Rattle.header.specs.declared.layout.Form.{Form}
 use Rattle.header.specs.declared.layout.Form.the-variants.{One, Two, Icl}
@@ -157,6 +157,20 @@ module _ {s t : List ℕ} (alike : AlikeInAll s t) where
   marks-under clear e = marks-same (isForm2 s) e ∙ (λ i. marksBy (layoutIn (form-same i) t) (hoursIn (form-same i) t) t)
   marks-under (fault number place) e = refl
 
+  -- the line of `unit` has a number in each form, whether its rows are judged or not
+  unit-said : (two judged : Bool) (hours : ℕ) → Alike (layoutBy (formBy two) judged) hours s t
+      → numberOn (layoutBy (formBy two) judged) hours UNIT-LINE s ≡ numberOn (layoutBy (formBy two) judged) hours UNIT-LINE t
+  unfolding numberOn
+  unit-said true judged hours o = o .says 2 (omega arith)
+  unit-said false judged hours o = o .says 1 (omega arith)
+
+  unit-same : (two : Bool)
+      → numberOn (layoutIn (formBy two) s) (hoursIn (formBy two) s) UNIT-LINE s ≡ numberOn (layoutIn (formBy two) t) (hoursIn (formBy two) t) UNIT-LINE t
+  unit-same two =
+      let form = formBy two in
+      unit-said two (isCount (countBy form s)) (hoursIn form s) (lines-same alike form)
+      ∙ (λ i. numberOn (layoutBy form (isCount (count-same alike form i))) (hoursBy (count-same alike form i)) UNIT-LINE t)
+
   pub same-header : SameHeader s t
   same-header =
       let one = fault-same alike (formOf s) ∙ (λ i. faultIn (form-same i) t) in
@@ -165,4 +179,5 @@ module _ {s t : List ℕ} (alike : AlikeInAll s t) where
         fault = one;
         hours = hours-same alike (formOf s) ∙ (λ i. hoursIn (form-same i) t);
         marks = marks-under (headerFault s) refl ∙ ap (λ (v : Verdict). marksUnder v t) one;
+        unit = unit-same (isForm2 s) ∙ (λ i. numberOn (layoutIn (form-same i) t) (hoursIn (form-same i) t) UNIT-LINE t);
       }

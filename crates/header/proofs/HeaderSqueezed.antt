@@ -1,5 +1,6 @@
--- A text beside a squeezed one, or any other with its first bytes: each line of a header stands in both or in neither, and says the same. A number
--- and a row end within as many bytes as a run may have, and of a longer run what follows is the same.
+-- A text beside a squeezed one, or any other with its first bytes: each line of its first header stands in both or in neither, and says the same. A
+-- number and a row end within as many bytes as a run may have, and of a longer run what follows is the same. How many other headers are squeezed too
+-- does not matter.
 use mathlib.Core.Path.{_≡_, refl, sym, _∙_, ap, subst}
 use mathlib.Core.Bool.{Bool, true, false, not, false≢true}
 use mathlib.Core.List.{List, [], _∷_}
@@ -23,6 +24,7 @@ use Rattle.lines.specs.Line.{isAt, placeIn, andThen, lineFeed}
 use Rattle.lines.specs.Squeezed.{RUN, squeezedFrom, squeezed}
 use Rattle.lines.proofs.Along.{closing, Placed, both, neither, unmoved, never-at, Stretch, key-printed, key-short, key-placed, feed-placed}
 use Rattle.lines.proofs.Agree.{first-bytes}
+use Rattle.lines.proofs.Pieces.{first-of}
 use Rattle.lines.proofs.Squeezed.{isDigitByte, squeezed-stands, squeezed-goes, squeezed-other, byte-stands, anew}
 use Rattle.header.specs.declared.layout.Line.{Line}
 use Rattle.header.specs.declared.layout.Line.the-variants.{Number, Row, Run, Close}
@@ -33,34 +35,38 @@ use Rattle.header.proofs.HeaderEnds.{line-ends}
 use Rattle.header.proofs.HeaderBehind.{opensLine, isShort, line-closed}
 use Rattle.header.proofs.HeaderSame.{Both, found, missed, reads-alike, AlikeInAll, all-turned, same-header}
 
+-- what stands of a line of the first header, behind so many digits of a run
+abbrev inLine : (others run : ℕ) → List ℕ → List ℕ
+inLine others = squeezedFrom (suc others) false
+
 -- ---- a run that is squeezed: what follows it is the same, and it is short
-run-kept : (run : ℕ) (u : List ℕ) → drop (runOf (squeezedFrom false run u)) (squeezedFrom false run u) ≡ squeezedFrom false 0 (drop (runOf u) u)
+run-kept : (others run : ℕ) (u : List ℕ) → drop (runOf (inLine others run u)) (inLine others run u) ≡ inLine others 0 (drop (runOf u) u)
 unfolding runOf squeezedFrom
-run-kept run [] = refl
-run-kept run (b ∷ t) =
+run-kept others run [] = refl
+run-kept others run (b ∷ t) =
     by-test (isDigitByte b) Same
     (λ d.
     by-test (ltb run RUN) Same
-    (λ l. rw (squeezed-stands false run b t refl d (ltb-true run RUN l), d) (run-kept (suc run) t))
-    (λ l. rw (squeezed-goes false run b t refl d l, d) (run-kept run t)))
-    (λ d. rw (squeezed-other false run b t refl d, d) (sym (squeezed-other false 0 b t refl d)))
+    (λ l. rw (squeezed-stands others false run b t refl d (ltb-true run RUN l), d) (run-kept others (suc run) t))
+    (λ l. rw (squeezed-goes others false run b t refl d l, d) (run-kept others run t)))
+    (λ d. rw (squeezed-other others false run b t refl d, d) (sym (squeezed-other others false 0 b t refl d)))
   where
     Same : Bool → Type 0
-    Same x = drop (runOf (squeezedFrom false run (b ∷ t))) (squeezedFrom false run (b ∷ t)) ≡ squeezedFrom false 0 (drop (runOf (b ∷ t)) (b ∷ t))
+    Same x = drop (runOf (inLine others run (b ∷ t))) (inLine others run (b ∷ t)) ≡ inLine others 0 (drop (runOf (b ∷ t)) (b ∷ t))
 
-run-short : (run : ℕ) (u : List ℕ) → run ≤ RUN → runOf (squeezedFrom false run u) + run ≤ RUN
+run-short : (others run : ℕ) (u : List ℕ) → run ≤ RUN → runOf (inLine others run u) + run ≤ RUN
 unfolding runOf squeezedFrom
-run-short run [] h = omega arith
-run-short run (b ∷ t) h =
+run-short others run [] h = omega arith
+run-short others run (b ∷ t) h =
     by-test (isDigitByte b) Few
     (λ d.
     by-test (ltb run RUN) Few
-    (λ l. let u = ltb-true run RUN l in rw (squeezed-stands false run b t refl d u, d) (let more = run-short (suc run) t (omega arith) in omega arith))
-    (λ l. rw (squeezed-goes false run b t refl d l) (run-short run t h)))
-    (λ d. rw (squeezed-other false run b t refl d, d) (omega arith))
+    (λ l. let u = ltb-true run RUN l in rw (squeezed-stands others false run b t refl d u, d) (let more = run-short others (suc run) t (omega arith) in omega arith))
+    (λ l. rw (squeezed-goes others false run b t refl d l) (run-short others run t h)))
+    (λ d. rw (squeezed-other others false run b t refl d, d) (omega arith))
   where
     Few : Bool → Type 0
-    Few x = runOf (squeezedFrom false run (b ∷ t)) + run ≤ RUN
+    Few x = runOf (inLine others run (b ∷ t)) + run ≤ RUN
 
 -- ---- a key that stands at a place, byte by byte
 key-read : (key s : List ℕ) (at x : ℕ) → keyAt key s at ≡ At x → (at + length key ≡ x) × ((i : ℕ) → i < length key → byteAt s (at + i) ≡ getD key i 0)
@@ -77,15 +83,15 @@ key-read (k ∷ ks) s at x =
     bytes h more zero u = ap (byteAt s) (add-zero at) ∙ h
     bytes h more (suc i) u = let further : at + suc i ≡ at + 1 + i = omega arith in ap (byteAt s) further ∙ more i (omega arith)
 
-first-of : (l : List ℕ) (i : ℕ) → byteAt (drop i l) 0 ≡ byteAt l i
-first-of l i = getD-drop i l 0 256 ∙ ap (byteAt l) (add-zero i)
-
 -- ---- a text, and another whose first bytes are those of the squeezed one
-module _ (s got : List ℕ) (N : ℕ) (wide : 12 * 48 ≤ N) (agree : (i : ℕ) → i < N → byteAt got i ≡ byteAt (squeezed s) i) where
+module _ (others : ℕ) (s got : List ℕ) (N : ℕ) (wide : 12 * 48 ≤ N) (agree : (i : ℕ) → i < N → byteAt got i ≡ byteAt (squeezed (suc others) s) i) where
+  abbrev text : List ℕ
+  text = squeezed (suc others) s
+
   -- line j begins at p in the one and at q in the other
   record Begins (j p q : ℕ) : Type 0 where
     within : q ≤ j * 48
-    rest : drop q (squeezed s) ≡ squeezedFrom true 0 (drop p s)
+    rest : drop q text ≡ squeezed (suc others) (drop p s)
 
   module _ (j p q : ℕ) (few : j ≤ 11) (r : Begins j p q) where
     -- its first bytes stand
@@ -94,9 +100,9 @@ module _ (s got : List ℕ) (N : ℕ) (wide : 12 * 48 ≤ N) (agree : (i : ℕ) 
         let inside : q + i < N = let l = r .within in omega arith in
         sym
         (agree (q + i) inside
-        ∙ sym (getD-drop q (squeezed s) i 256)
+        ∙ sym (getD-drop q text i 256)
         ∙ ap (λ (l : List ℕ). byteAt l i) (r .rest)
-        ∙ byte-stands i true 0 (drop p s) (omega arith)
+        ∙ byte-stands i (suc others) true 0 (drop p s) (omega arith)
         ∙ getD-drop p s i 256)
 
     window : Stretch s got (λ i. p + i) (λ i. q + i) (λ w i. i + w ≤ RUN)
@@ -108,14 +114,14 @@ module _ (s got : List ℕ) (N : ℕ) (wide : 12 * 48 ≤ N) (agree : (i : ℕ) 
     }
 
     rest-behind : (n : ℕ) → n < RUN → ((i : ℕ) → i < n → byteAt s (p + i) ≡ 10 → ⊥) → (byteAt s p ≡ 10 → ⊥) → isDigitByte (byteAt s (p + n)) ≡ false
-        → drop (q + suc n) (squeezed s) ≡ squeezedFrom (eqb (byteAt s (p + n)) 10) 0 (drop (p + suc n) s)
+        → drop (q + suc n) text ≡ squeezedFrom (suc others) (eqb (byteAt s (p + n)) 10) 0 (drop (p + suc n) s)
     rest-behind n u none begun other =
-        sym (drop-drop (suc n) q (squeezed s))
+        sym (drop-drop (suc n) q text)
         ∙ ap (drop (suc n)) (r .rest)
-        ∙ anew n true 0 (drop p s) (omega arith) (λ i l e. none i l (sym (getD-drop p s i 256) ∙ e)) (λ t e. begun (sym (first-of s p) ∙ e))
+        ∙ anew n (suc others) true 0 (drop p s) (omega arith) (λ i l e. none i l (sym (getD-drop p s i 256) ∙ e)) (λ t e. begun (sym (first-of s p) ∙ e))
         (ap isDigitByte (getD-drop p s n 256) ∙ other)
-        ∙ ap (λ (b : ℕ). squeezedFrom (eqb b 10) 0 (drop (suc n) (drop p s))) (getD-drop p s n 256)
-        ∙ ap (squeezedFrom (eqb (byteAt s (p + n)) 10) 0) (drop-drop (suc n) p s)
+        ∙ ap (λ (b : ℕ). squeezedFrom (suc others) (eqb b 10) 0 (drop (suc n) (drop p s))) (getD-drop p s n 256)
+        ∙ ap (squeezedFrom (suc others) (eqb (byteAt s (p + n)) 10) 0) (drop-drop (suc n) p s)
 
     -- ---- a line that ends among them
     module _ (hours : ℕ) (line : Line) (opened : opensLine line ≡ true) (short : widthOf hours line s < RUN) where
@@ -130,7 +136,7 @@ module _ (s got : List ℕ) (N : ℕ) (wide : 12 * 48 ≤ N) (agree : (i : ℕ) 
             rest = rw here
                 (rest-behind long (omega arith) (λ i u z. let m = ends .first i (ap closing z) in omega arith)
                 (λ z. never-at (sym (line-closed hours line s p opened (ap closing z)) ∙ e)) (ap isDigitByte feed)
-                ∙ ap (λ (b : Bool). squeezedFrom b 0 (drop (p + suc long) s)) (eq-eqb _ 10 feed));
+                ∙ ap (λ (b : Bool). squeezedFrom (suc others) b 0 (drop (p + suc long) s)) (eq-eqb _ 10 feed));
           }
 
       short-next : Both (Begins (suc j)) (headerLine hours line s p) (headerLine hours line got q)
@@ -141,7 +147,7 @@ module _ (s got : List ℕ) (N : ℕ) (wide : 12 * 48 ≤ N) (agree : (i : ℕ) 
           go neither e = missed
 
     -- ---- a run, behind its key
-    module _ (k : ℕ) (close : k ≤ 8) (rest : drop (q + k) (squeezed s) ≡ squeezedFrom false 0 (drop (p + k) s)) where
+    module _ (k : ℕ) (close : k ≤ 8) (rest : drop (q + k) text ≡ inLine others 0 (drop (p + k) s)) where
       abbrev u : List ℕ
       u = drop (p + k) s
 
@@ -149,31 +155,31 @@ module _ (s got : List ℕ) (N : ℕ) (wide : 12 * 48 ≤ N) (agree : (i : ℕ) 
       one = p + k + runOf u
 
       abbrev other : ℕ
-      other = q + k + runOf (squeezedFrom false 0 u)
+      other = q + k + runOf (inLine others 0 u)
 
       within : other + 1 ≤ suc j * 48
-      within = let m = r .within in let n = run-short 0 u (omega arith) in omega arith
+      within = let m = r .within in let n = run-short others 0 u (omega arith) in omega arith
 
       run-same : behindRun got (q + k) ≡ At other
       run-same =
           let m = r .within in
-          let bytes = first-bytes (squeezed s) got N (λ i h. sym (agree i h)) N (omega arith) in
-          let short : runOf (drop (q + k) (squeezed s)) ≤ RUN = rw rest (let n = run-short 0 u (omega arith) in omega arith) in
+          let bytes = first-bytes text got N (λ i h. sym (agree i h)) N (omega arith) in
+          let short : runOf (drop (q + k) text) ≤ RUN = rw rest (let n = run-short others 0 u (omega arith) in omega arith) in
           sym (unmoved (run-placed bytes RUN 0 (RUN + 1) (q + k) short (omega arith) (omega arith))) ∙ ap (λ (l : List ℕ). At (q + k + runOf l)) rest
 
-      behind : drop other (squeezed s) ≡ squeezedFrom false 0 (drop one s)
+      behind : drop other text ≡ inLine others 0 (drop one s)
       behind =
-          sym (drop-drop (runOf (squeezedFrom false 0 u)) (q + k) (squeezed s))
-          ∙ ap (drop (runOf (squeezedFrom false 0 u))) rest
-          ∙ run-kept 0 u
-          ∙ ap (squeezedFrom false 0) (drop-drop (runOf u) (p + k) s)
+          sym (drop-drop (runOf (inLine others 0 u)) (q + k) text)
+          ∙ ap (drop (runOf (inLine others 0 u))) rest
+          ∙ run-kept others 0 u
+          ∙ ap (inLine others 0) (drop-drop (runOf u) (p + k) s)
 
       behind-byte : byteAt got other ≡ byteAt s one
       behind-byte =
           agree other (let m = within in omega arith)
-          ∙ sym (first-of (squeezed s) other)
+          ∙ sym (first-of text other)
           ∙ ap (λ (l : List ℕ). byteAt l 0) behind
-          ∙ byte-stands 0 false 0 (drop one s) (omega arith)
+          ∙ byte-stands 0 (suc others) false 0 (drop one s) (omega arith)
           ∙ first-of s one
 
       behind-feed : byteAt s one ≡ 10 → Begins (suc j) (one + 1) (other + 1)
@@ -182,11 +188,11 @@ module _ (s got : List ℕ) (N : ℕ) (wide : 12 * 48 ≤ N) (agree : (i : ℕ) 
           record {
             within = within;
             rest =
-                sym (drop-drop 1 other (squeezed s))
+                sym (drop-drop 1 other text)
                 ∙ ap (drop 1) behind
-                ∙ anew 0 false 0 (drop one s) (omega arith) (λ i l. absurd (omega arith)) (λ x. absurd (false≢true x)) (ap isDigitByte feed)
-                ∙ ap (λ (b : Bool). squeezedFrom b 0 (drop 1 (drop one s))) (eq-eqb _ 10 feed)
-                ∙ ap (squeezedFrom true 0) (drop-drop 1 one s);
+                ∙ anew 0 (suc others) false 0 (drop one s) (omega arith) (λ i l. absurd (omega arith)) (λ x. absurd (false≢true x)) (ap isDigitByte feed)
+                ∙ ap (λ (b : Bool). squeezedFrom (suc others) b 0 (drop 1 (drop one s))) (eq-eqb _ 10 feed)
+                ∙ ap (squeezed (suc others)) (drop-drop 1 one s);
           }
 
       feed-next : Both (Begins (suc j)) (lineFeed s one) (lineFeed got other)
@@ -203,7 +209,7 @@ module _ (s got : List ℕ) (N : ℕ) (wide : 12 * 48 ≤ N) (agree : (i : ℕ) 
     -- and with it
     module _ (hours key : ℕ) (opened : ltb key KEYS ≡ true) where
       -- a key has no line feed and ends in an equals sign
-      key-behind : (k : ℕ) → keyAt (keyOf key) s p ≡ At (p + k) → drop (q + k) (squeezed s) ≡ squeezedFrom false 0 (drop (p + k) s)
+      key-behind : (k : ℕ) → keyAt (keyOf key) s p ≡ At (p + k) → drop (q + k) text ≡ inLine others 0 (drop (p + k) s)
       unfolding allTo
       key-behind k e =
           let word = keyOf key in
@@ -220,7 +226,7 @@ module _ (s got : List ℕ) (N : ℕ) (wide : 12 * 48 ≤ N) (agree : (i : ℕ) 
           let last : byteAt s (p + n) ≡ 61 = read .1 n (omega arith) ∙ end in
           rw here
           (rest-behind n (omega (arith, key-short key)) (λ i u. none i (omega arith)) (λ z. none 0 some (ap (byteAt s) (add-zero p) ∙ z)) (ap isDigitByte last)
-          ∙ ap (λ (b : ℕ). squeezedFrom (eqb b 10) 0 (drop (p + suc n) s)) last)
+          ∙ ap (λ (b : ℕ). squeezedFrom (suc others) (eqb b 10) 0 (drop (p + suc n) s)) last)
 
       run-next : Both (Begins (suc j)) (headerLine hours (Run key) s p) (headerLine hours (Run key) got q)
       unfolding headerLine saidAt
@@ -270,8 +276,9 @@ module _ (s got : List ℕ) (N : ℕ) (wide : 12 * 48 ≤ N) (agree : (i : ℕ) 
       })
 
 -- ---- so a squeezed text is judged alike
-pub itself-squeezed : (s : List ℕ) → AlikeInAll (squeezed s) s
-itself-squeezed s = all-turned (squeezed-alike s (squeezed s) (12 * 48) (omega arith) (λ i h. refl))
+module _ (others : ℕ) (s : List ℕ) where
+  pub itself-squeezed : AlikeInAll (squeezed (suc others) s) s
+  itself-squeezed = all-turned (squeezed-alike others s (squeezed (suc others) s) (12 * 48) (omega arith) (λ i h. refl))
 
-pub squeezed-header : (s : List ℕ) → SameHeader (squeezed s) s
-squeezed-header s = same-header (itself-squeezed s)
+  pub squeezed-header : SameHeader (squeezed (suc others) s) s
+  squeezed-header = same-header itself-squeezed

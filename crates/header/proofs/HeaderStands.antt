@@ -1,4 +1,5 @@
--- A header that is not refused stands as it is in the squeezed text, and so does what follows it: none of its lines has a long run of digits.
+-- A header that is not refused stands as it is in the text of which it alone is squeezed, and so does what follows it: none of its lines has a long
+-- run of digits.
 use mathlib.Core.Path.{_≡_, refl, sym, _∙_, ap, subst}
 use mathlib.Core.Bool.{Bool, true, false, false≢true}
 use mathlib.Core.List.{List, _++_, append-assoc}
@@ -66,28 +67,28 @@ module _ (hours : ℕ) (day : hours ≤ LONGEST-DAY) (s : List ℕ) where
         go neither e = absurd (never-at e)
 
     -- up to the place p the text stands as it is; behind it begins a line of the header
-    pub stands-on : opensLine line ≡ true → squeezed s ≡ take p s ++ squeezedFrom true 0 (drop p s) → squeezed s ≡ take k s ++ squeezedFrom true 0 (drop k s)
+    stands-on : opensLine line ≡ true → squeezed 1 s ≡ take p s ++ squeezedFrom 1 true 0 (drop p s) → squeezed 1 s ≡ take k s ++ squeezedFrom 1 true 0 (drop k s)
     stands-on opened so-far =
         let ends = line-ends hours line s p k read in
         let n = ends .long in
         let next = ends .next in
         let soon = ends-soon in
         let rest = drop p s in
-        let text = squeezedFrom true 0 rest in
+        let text = squeezedFrom 1 true 0 rest in
         let byte : (i : ℕ) → byteAt rest i ≡ byteAt s (p + i) = λ i. getD-drop p s i 256 in
         let feed = byte n ∙ ends .feed in
         let begun : byteAt rest 0 ≡ 10 → ⊥ = λ z. never-at (sym (line-closed hours line s p opened (ap closing (sym (byte 0 ∙ ap (byteAt s) (add-zero p)) ∙ z))) ∙ read) in
-        let front : take (suc n) text ≡ take (suc n) rest = first-stand (suc n) true 0 rest (omega arith) in
-        let back : drop (suc n) text ≡ squeezedFrom true 0 (drop (suc n) rest) =
-        anew n true 0 rest (omega arith) (λ i l z. let m = ends .first i (ap closing (sym (byte i) ∙ z)) in omega arith) (λ t z. begun z) (ap isDigitByte feed)
-        ∙ ap (λ (b : Bool). squeezedFrom b 0 (drop (suc n) rest)) (eq-eqb _ 10 feed)
+        let front : take (suc n) text ≡ take (suc n) rest = first-stand (suc n) 1 true 0 rest (omega arith) in
+        let back : drop (suc n) text ≡ squeezedFrom 1 true 0 (drop (suc n) rest) =
+        anew n 1 true 0 rest (omega arith) (λ i l z. let m = ends .first i (ap closing (sym (byte i) ∙ z)) in omega arith) (λ t z. begun z) (ap isDigitByte feed)
+        ∙ ap (λ (b : Bool). squeezedFrom 1 b 0 (drop (suc n) rest)) (eq-eqb _ 10 feed)
         in
         let here : p + suc n ≡ k = omega arith in
         rw (← here)
         (so-far
         ∙ ap (λ (l : List ℕ). take p s ++ l) (sym (take-append-drop (suc n) text) ∙ (λ i. front i ++ back i))
-        ∙ sym (append-assoc (take p s) (take (suc n) rest) (squeezedFrom true 0 (drop (suc n) rest)))
-        ∙ (λ i. sym (take-add p (suc n) s) i ++ squeezedFrom true 0 (drop-drop (suc n) p s i)))
+        ∙ sym (append-assoc (take p s) (take (suc n) rest) (squeezedFrom 1 true 0 (drop (suc n) rest)))
+        ∙ (λ i. sym (take-add p (suc n) s) i ++ squeezedFrom 1 true 0 (drop-drop (suc n) p s i)))
 
 -- ---- line by line, up to the closing one
 module _ (layout : List Line) (o : Closed layout) (fits : (j : ℕ) → j < o .last → isBounded (lineIn layout j) ≡ true) (hours : ℕ) (day : hours ≤ LONGEST-DAY)
@@ -95,7 +96,7 @@ module _ (layout : List Line) (o : Closed layout) (fits : (j : ℕ) → j < o .l
   abbrev start : ℕ → ℕ
   start = startOf layout hours s
 
-  up-to : (j : ℕ) → j ≤ o .last → squeezed s ≡ take (start j) s ++ squeezedFrom true 0 (drop (start j) s)
+  up-to : (j : ℕ) → j ≤ o .last → squeezed 1 s ≡ take (start j) s ++ squeezedFrom 1 true 0 (drop (start j) s)
   unfolding linePlace
   up-to zero u = refl
   up-to (suc j) u =
@@ -103,14 +104,15 @@ module _ (layout : List Line) (o : Closed layout) (fits : (j : ℕ) → j < o .l
       stands-on hours day s (lineIn layout j) (start j) (start (suc j)) (fits j u) (line-read layout hours s form j (omega arith)) (o .front j u) (up-to j (omega arith))
 
   -- behind the closing line feed a text is not squeezed
-  rest-stands : squeezedFrom true 0 (drop (start (o .last)) s) ≡ drop (start (o .last)) s
+  rest-stands : squeezedFrom 1 true 0 (drop (start (o .last)) s) ≡ drop (start (o .last)) s
+  unfolding squeezedFrom
   rest-stands =
       let p = start (o .last) in
       let l = o .long in
       let feed = feed-ends s p _ (sym (close-line hours s p (o .close)) ∙ line-read layout hours s form (o .last) (omega arith)) .0 in
-      rw (drop-cons s p 256 (byte-inside s p 10 feed (lit< tt))) (squeezed-end true 0 (byteAt s p) (drop (suc p) s) (eq-eqb (byteAt s p) 10 feed))
+      rw (drop-cons s p 256 (byte-inside s p 10 feed (lit< tt))) (squeezed-end 0 true 0 (byteAt s p) (drop (suc p) s) (eq-eqb (byteAt s p) 10 feed))
 
-  all-stands : squeezed s ≡ s
+  all-stands : squeezed 1 s ≡ s
   all-stands =
       let p = start (o .last) in
       up-to (o .last) (omega arith) ∙ ap (λ (l : List ℕ). take p s ++ l) rest-stands ∙ take-append-drop p s
@@ -122,7 +124,7 @@ lines-bounded One = refl
 lines-bounded Two = refl
 lines-bounded Icl = refl
 
-pub stands-itself : (form : Form) (s : List ℕ) → faultIn form s ≡ clear → squeezed s ≡ s
+stands-itself : (form : Form) (s : List ℕ) → faultIn form s ≡ clear → squeezed 1 s ≡ s
 stands-itself form s e =
     let hours = hoursIn form s in
     let o = layout-closed form true in
@@ -131,5 +133,5 @@ stands-itself form s e =
     (hours-few (countBy form s)) s
     (subst (λ (b : Bool). layoutForm (layoutBy form b) hours s ≡ clear) (clear-counted form s e) (form-clear (layoutIn form s) hours s e))
 
-pub header-stands : (s : List ℕ) → headerFault s ≡ clear → squeezed s ≡ s
+pub header-stands : (s : List ℕ) → headerFault s ≡ clear → squeezed 1 s ≡ s
 header-stands s = stands-itself (formOf s) s

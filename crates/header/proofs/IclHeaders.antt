@@ -2,7 +2,7 @@
 use mathlib.Core.Path.{_≡_, refl, sym, _∙_, ap}
 use mathlib.Core.Bool.{Bool, true, false, false≢true}
 use mathlib.Core.List.{List, _++_}
-use Prim.Native.Nat.{ℕ, _^_, _≤_, _<_}
+use Prim.Native.Nat.{ℕ, suc, _^_, _≤_, _<_}
 use native.Mathlib.Decide.{decLt}
 use native.Mathlib.Nat.{pow-le-pow-right}
 use native.Mathlib.Omega.{arith}
@@ -59,11 +59,12 @@ icl-same-header {s} {t} alike = record {
 pub icl-same-first : (s t : List ℕ) → firstPiece s ≡ firstPiece t → SameIclHeader s t
 icl-same-first s t e = icl-same-header (firsts-alike s t e)
 
-pub icl-bytes-header : (got s : List ℕ) → take PIECE got ≡ take PIECE (squeezed s) → SameIclHeader got s
-icl-bytes-header got s e = icl-same-header (bytes-alike got s e)
+module _ (others : ℕ) (got s : List ℕ) where
+  pub icl-bytes-header : take PIECE got ≡ take PIECE (squeezed (suc others) s) → SameIclHeader got s
+  icl-bytes-header e = icl-same-header (bytes-alike others got s e)
 
-pub icl-piece-header : (got s : List ℕ) → firstPiece got ≡ firstPiece (squeezed s) → SameIclHeader got s
-icl-piece-header got s e = icl-same-header (piece-alike got s e)
+  pub icl-piece-header : firstPiece got ≡ firstPiece (squeezed (suc others) s) → SameIclHeader got s
+  icl-piece-header e = icl-same-header (piece-alike others got s e)
 
 -- ---- whatever follows it
 module _ (head : List ℕ) (e : iclHeaderFault head ≡ clear) (n : iclNextUnder (iclHeaderFault head) head ≡ length head) (body : List ℕ) where

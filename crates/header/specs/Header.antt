@@ -3,14 +3,15 @@
 -- internal controllable line (ICL) has a header of its own, of four lines; what decides it is said here with the others, and what it says in IclHeader.
 use mathlib.Core.Bool.{Bool, true, false}
 use mathlib.Core.List.{List, [], _∷_}
-use Prim.Native.Nat.{ℕ}
+use Prim.Native.Nat.{ℕ, suc}
 use lib.Dec.{eqb}
 use lib.IntN.{ℤ, pos}
-use lib.ListN.{length, replicate}
+use lib.ListN.{length}
 use Rattle.exact.specs.Choice.{if_then_else_}
 use Rattle.exact.specs.Whole.{eqZ}
 use Rattle.tariff.specs.declared.Marks.{Marks}
 use Rattle.tariff.specs.Sheet.{SHORTEST-DAY, USUAL-DAY, LONGEST-DAY, isCount, hoursBy}
+use Rattle.tariff.specs.Eligible.{noMarks}
 use Rattle.tariff.specs.Reply.{Verdict, clear, fault}
 use Rattle.text.specs.declared.Next.the-variants.{At}
 use Rattle.keys.specs.Keys.{FORM-LINE, HOURS-LINE, UNIT-LINE, RTC-LINE, CAT-LINE, X1-LINE, X2-LINE, X3-LINE, X4-LINE, X5-LINE, X6-LINE, LINE-LINE, MARK-LINE}
@@ -20,7 +21,7 @@ use Rattle.header.specs.declared.layout.Form.{Form}
 use Rattle.header.specs.declared.layout.Form.the-variants.{One, Two, Icl}
 use Rattle.header.specs.declared.layout.Line.{Line}
 use Rattle.header.specs.declared.layout.Line.the-variants.{Number, Row, Run, Close}
-use Rattle.header.specs.Layout.{admits, linePlace, numberFrom, layoutFault, numberOn, digitOn}
+use Rattle.header.specs.Layout.{admits, linePlace, numberFrom, layoutFault, lineOf, numberOn, digitOn}
 
 -- ---- the lines
 
@@ -125,6 +126,10 @@ headerFault s = faultIn (formOf s) s
 abbrev pub unitOf : List ℕ → ℤ
 unitOf s = numberOn (layoutOf s) (hoursOf s) UNIT-LINE s
 
+-- the line that says it, from 1: form 2 has a line more in front of it
+abbrev pub unitLine : List ℕ → ℕ
+unitLine s = suc (lineOf UNIT-LINE (layoutOf s))
+
 unfoldable pub rowWord : List Line → (hours key : ℕ) → List ℕ → ℕ
 rowWord layout hours key s = word hours (λ h. eqb (digitOn layout hours key s h) 1)
 
@@ -145,14 +150,14 @@ marksBy layout hours s =
 abbrev pub marksOf : List ℕ → Marks
 marksOf s = marksBy (layoutOf s) (hoursOf s) s
 
--- no hour has a category, so that none is eligible
-abbrev pub noMarks : Marks
-noMarks = record { rtc = false; cat = replicate LONGEST-DAY 0; x1 = 0; x2 = 0; x3 = 0; x4 = 0; x5 = 0; x6 = 0 }
-
--- a refused header has none
+-- a refused header has none, and its unit is given as 0
 abbrev pub marksUnder : Verdict → List ℕ → Marks
 marksUnder clear s = marksOf s
 marksUnder (fault number place) s = noMarks
+
+abbrev pub unitUnder : Verdict → List ℕ → ℤ
+unitUnder clear s = unitOf s
+unitUnder (fault number place) s = pos 0
 
 abbrev pub nextUnder : Verdict → List ℕ → ℕ
 nextUnder v s = nextIn (formOf s) v s

@@ -3,7 +3,7 @@ ghost use mathlib.Core.Path.{_≡_};
 ghost use mathlib.Core.Bool.{true};
 ghost use Prim.Native.Nat.{_≤_};
 ghost use lib.ListN.{length};
-ghost use Rattle.keys.specs.Keys.{RTC-LINE};
+ghost use Rattle.keys.specs.Keys.{UNIT-LINE, RTC-LINE};
 ghost use Rattle.header.specs.Layout.{lineIn, lineOf};
 ghost use Rattle.header.specs.Header.{row, unitAndMarks, formBy, layoutBy};
 
@@ -103,7 +103,14 @@ pub fn lines_of(form: Form, judged: bool) -> usize
     }
 }
 
-// The line of `rtc`, from 0, behind which the rows of marks stand: form 2 has a line more in front of it.
+// The line of `unit`, from 0: form 2 has a line more in front of it.
+pub fn unit_line(two: bool) -> usize
+    ensures { λ r. ⌜ (r ≡ lineOf UNIT-LINE (layoutBy (formBy two) true)) × (r ≤ 2) ⌝ }
+{
+    if two { 2 } else { 1 }
+}
+
+// The line of `rtc`, from 0, behind which the rows of marks stand.
 pub fn rtc_line(two: bool) -> usize
     ensures { λ r. ⌜ (r ≡ lineOf RTC-LINE (layoutBy (formBy two) true)) × (r ≤ 3) ⌝ }
 {

@@ -3,7 +3,7 @@
 ghost use mathlib.Core.Path.{_≡_};
 ghost use Rattle.tariff.specs.Reply.{shown};
 ghost use Rattle.marks.specs.Word.{word};
-ghost use Rattle.header.specs.Header.{headerFault, isForm2, hoursOf, marksUnder, nextUnder};
+ghost use Rattle.header.specs.Header.{headerFault, isForm2, hoursOf, unitLine, marksUnder, unitUnder};
 ghost use Rattle.header.specs.IclHeader.{iclHeaderFault, iclHoursOf, iclUnmarkedUnder, iclNextUnder};
 use crate::layout::Form;
 use tariff::Found;
@@ -13,12 +13,13 @@ mod heads;
 mod layout;
 mod rows;
 
-// What a header says: its fault or none, the day's marks, how many hours it has, and the place behind it.
+// What a header says: its fault or none, the day's marks, how many hours it has, the unit, and the line of that, from 1.
 pub struct Header {
     pub found: Found,
     pub marks: Marks,
     pub hours: usize,
-    pub next: usize,
+    pub unit: i64,
+    pub line: usize,
 }
 
 // What an ICL's header says: its fault or none, the hours of its day that are not marked, how many it has, and the place behind it.
@@ -29,33 +30,27 @@ pub struct IclHeader {
     pub next: usize,
 }
 
-// Reads the header at the front of a sheet. Any bytes are judged. A refused header has no marks, so that no hour is eligible by it.
+// Reads the header at the front of a text. Any bytes are judged. A refused header has no marks, so that no hour is eligible by it.
 pub fn read_header(s: &[u8]) -> Header
     ensures found { λ r. ⌜ shown (r .found) ≡ headerFault (now (s .entry)) ⌝ }
     ensures marks { λ r. ⌜ r .marks ≡ marksUnder (headerFault (now (s .entry))) (now (s .entry)) ⌝ }
     ensures hours { λ r. ⌜ r .hours ≡ hoursOf (now (s .entry)) ⌝ }
-    ensures next { λ r. ⌜ r .next ≡ nextUnder (headerFault (now (s .entry))) (now (s .entry)) ⌝ }
+    ensures unit { λ r. ⌜ r .unit ≡ unitUnder (headerFault (now (s .entry))) (now (s .entry)) ⌝ }
+    ensures line { λ r. ⌜ r .line ≡ unitLine (now (s .entry)) ⌝ }
 {
     let two = is_form2(s);
     let head = heads::head_of(s, layout::form_by(two));
     let found = head.found;
     let hours = head.hours;
-    let next = head.next;
+    let unit = layout::unit_line(two);
+    let line = unit + 1;
     if let Found::Fault(_) = found {
         return Header {
             found,
-            marks: Marks {
-                rtc: false,
-                cat: [0u8; tariff::LONGEST_DAY],
-                x1: 0,
-                x2: 0,
-                x3: 0,
-                x4: 0,
-                x5: 0,
-                x6: 0,
-            },
+            marks: marks::no_marks(),
             hours,
-            next,
+            unit: 0,
+            line,
         };
     }
     let at = head.at;
@@ -63,7 +58,8 @@ pub fn read_header(s: &[u8]) -> Header
         found,
         marks: heads::marks_of(s, at, two, hours),
         hours,
-        next,
+        unit: heads::number_of(s, at[unit], keys::UNIT_LINE),
+        line,
     }
 }
 

@@ -1,6 +1,5 @@
 -- A text taken in part by part: after each part it is as if all of them had come at once.
 use mathlib.Core.Path.{_≡_, sym, _∙_, ap, ap₂}
-use mathlib.Core.Bool.{Bool}
 use mathlib.Core.List.{List, [], _++_}
 use Prim.Native.Nat.{ℕ}
 use Rattle.intake.specs.declared.Intake.{Intake}
@@ -11,28 +10,28 @@ use Rattle.intake.specs.Intake.{afterAll, storeAll, atFirst, begun, Take
 use Rattle.intake.proofs.Kept.{parts}
 use Rattle.intake.proofs.Squeezes.{none, split}
 
-module _ (store : List ℕ) (pieces : ℕ) (header : Bool) where
+module _ (store : List ℕ) (pieces headers : ℕ) where
   -- so far: the store and the states that some text leaves
   pub record SoFar (last : List ℕ) (t : Taken) : Type 0 where
     pub text : List ℕ
-    pub squeezing : t .squeezed ≡ squeezeAfter (squeezeFirst header) text
-    pub state : t .kept ≡ afterAll store (atFirst pieces) (squeezedBy (squeezeFirst header) text)
-    pub holds : last ≡ storeAll store (atFirst pieces) (squeezedBy (squeezeFirst header) text)
+    pub squeezing : t .squeezed ≡ squeezeAfter (squeezeFirst headers) text
+    pub state : t .kept ≡ afterAll store (atFirst pieces) (squeezedBy (squeezeFirst headers) text)
+    pub holds : last ≡ storeAll store (atFirst pieces) (squeezedBy (squeezeFirst headers) text)
 
-  pub none-yet : (t : Taken) → t ≡ begun pieces header → SoFar store t
+  pub none-yet : (t : Taken) → t ≡ begun pieces headers → SoFar store t
   unfolding afterAll storeAll squeezeAfter
   none-yet t e = record {
     text = [];
     squeezing = ap (λ (x : Taken). x .squeezed) e;
-    state = rw (none (squeezeFirst header)) (ap (λ (x : Taken). x .kept) e);
-    holds = rw (none (squeezeFirst header));
+    state = rw (none (squeezeFirst headers)) (ap (λ (x : Taken). x .kept) e);
+    holds = rw (none (squeezeFirst headers));
   }
 
   module _ (last : List ℕ) (t : Taken) (h : SoFar last t) where
     pub a-part-more : (next : List ℕ) (u : Taken) → TakenMore last t next u → SoFar next u
     a-part-more next u more =
         let part = more .part in
-        let first = squeezeFirst header in
+        let first = squeezeFirst headers in
         let two = split (h .text) part first in
         let stands = squeezedBy (t .squeezed) part in
         let same : stands ≡ squeezedBy (squeezeAfter first (h .text)) part = ap (λ (x : Squeeze). squeezedBy x part) (h .squeezing) in
@@ -44,5 +43,5 @@ module _ (store : List ℕ) (pieces : ℕ) (header : Bool) where
           holds = more .holds ∙ ap₂ (λ (l : List ℕ) (x : Intake). storeAll l x stands) (h .holds) (h .state) ∙ sym (all .1);
         }
 
-    pub taken-in : TakenIn store pieces header last (t .kept .n)
+    pub taken-in : TakenIn store pieces headers last (t .kept .n)
     taken-in = record { text = h .text; counted = ap (λ (x : Intake). x .n) (h .state); holds = h .holds }

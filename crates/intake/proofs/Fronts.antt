@@ -20,12 +20,12 @@ use Rattle.intake.proofs.Store.{counts}
 pub record SoFar (store : List ℕ) (p : Squeeze) (n : ℕ) : Type 0 where
   pub within : n ≤ length store
   pub text : List ℕ
-  pub holds : take n store ≡ squeezedBy (squeezeFirst true) text
-  pub state : p ≡ squeezeAfter (squeezeFirst true) text
+  pub holds : take n store ≡ squeezedBy (squeezeFirst 1) text
+  pub state : p ≡ squeezeAfter (squeezeFirst 1) text
 
-pub none-yet : (store : List ℕ) (p : Squeeze) → p ≡ squeezeFirst true → SoFar store p 0
+pub none-yet : (store : List ℕ) (p : Squeeze) → p ≡ squeezeFirst 1 → SoFar store p 0
 unfolding squeezeAfter
-none-yet store p e = record { within = omega arith; text = []; holds = sym (none (squeezeFirst true)); state = e }
+none-yet store p e = record { within = omega arith; text = []; holds = sym (none (squeezeFirst 1)); state = e }
 
 -- the store, with a row in place of what stood behind its first n bytes
 abbrev pub rowBehind : (store : List ℕ) (n : ℕ) (row : List ℕ) → List ℕ
@@ -37,7 +37,7 @@ module _ (store : List ℕ) (p : Squeeze) (n : ℕ) (h : SoFar store p n) where
       let part = came .part in
       let rest = drop (length store - n) (drop n store) in
       let front = length-take-le n store (h .within) in
-      let two = split (h .text) part (squeezeFirst true) in
+      let two = split (h .text) part (squeezeFirst 1) in
       let stands = rw (front, take-append-le (r .n) row rest room) at (take-append-add (take n store) (row ++ rest) (r .n)) in
       record {
         within = rw (length-append (take n store) (row ++ rest), length-append row rest, front) (omega arith);
@@ -53,15 +53,13 @@ module _ (store : List ℕ) (p : Squeeze) (n : ℕ) (h : SoFar store p n) where
   Told ended = Counts n store × FrontTaken store (record { n = n; ended = ended })
 
   pub at-end : Told true
-  unfolding squeezedBy
   at-end = (counts n store (h .within), record { text = h .text; holds = h .holds; enough = λ e. absurd (false≢true (sym e)) })
 
   decided : Decides (h .text) n → Told false
-  unfolding squeezedBy
   decided d = (counts n store (h .within), record { text = h .text; holds = h .holds; enough = λ e. d })
 
-  pub at-closed : p .header ≡ false → Told false
-  at-closed e = decided (closed (ap (λ (x : Squeeze). x .header) (sym (h .state)) ∙ e))
+  pub at-closed : p .headers ≡ 0 → Told false
+  at-closed e = decided (closed (ap (λ (x : Squeeze). x .headers) (sym (h .state)) ∙ e))
 
   pub at-long : PIECE ≤ n → Told false
   at-long l = decided (long l)

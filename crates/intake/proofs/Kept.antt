@@ -186,7 +186,7 @@ first-kept (b ∷ t) p i left = go (step i b) (λ j. first-kept t p j)
     go (passed l r e) more = none r
     go (cut l r e) more = none r
 
-pub first-piece : (p : ℕ) (s : List ℕ) → FirstKept (keptOf (atFirst (suc p)) s) s
+first-piece : (p : ℕ) (s : List ℕ) → FirstKept (keptOf (atFirst (suc p)) s) s
 first-piece p s = go (first-kept s p (atFirst (suc p)) refl)
   where
     go : Kept PIECE true (keptOf (atFirst (suc p)) s) s → FirstKept (keptOf (atFirst (suc p)) s) s

@@ -2,7 +2,7 @@
 use mathlib.Core.Path.{_≡_, refl, sym}
 use mathlib.Core.Bool.{Bool, true, false, _&&_, and-false}
 use mathlib.Core.List.{List, [], _∷_, _++_, append-assoc, append-nil}
-use Prim.Native.Nat.{ℕ, _+_, _-_, _≤_, _<_}
+use Prim.Native.Nat.{ℕ, zero, suc, _+_, _-_, _≤_, _<_}
 use native.Mathlib.Nat.{add-zero}
 use native.Mathlib.Numerals.{add-one}
 use native.Mathlib.Omega.{arith}
@@ -13,11 +13,11 @@ use lib.Seq.{drop-cons, drop-set-lt, getD-take, length-take-le, take-set-le, tak
 use Rattle.exact.specs.Choice.{if_then_else_}
 use Rattle.exact.proofs.Parts.{by-test}
 use Rattle.text.specs.Text.{LF}
-use Rattle.lines.specs.Squeezed.{RUN, squeezedFrom, squeezed}
-use Rattle.lines.proofs.Squeezed.{no-feed}
+use Rattle.lines.specs.Squeezed.{RUN, squeezedFrom}
+use Rattle.lines.proofs.Squeezed.{squeezed-none, no-feed}
 use Rattle.intake.specs.declared.squeeze.Squeeze.{Squeeze}
 use Rattle.text.specs.Number.{isNumeral}
-use Rattle.intake.specs.Squeeze.{standing, squeezeNext, squeezedBy, squeezeAfter}
+use Rattle.intake.specs.Squeeze.{inHeader, standing, squeezeNext, squeezedBy, squeezeAfter}
 
 -- ---- byte by byte
 
@@ -32,40 +32,37 @@ module _ (b : ℕ) (t : List ℕ) where
   abbrev By : Squeeze → Type 0
   By p = squeezedBy p (b ∷ t) ≡ standing p b ++ squeezedBy (squeezeNext p b) t
 
-  in-header : (start : Bool) (run : ℕ) → By (record { header = true; start = start; run = run })
-  unfolding squeezedBy squeezedFrom standing squeezeNext
-  in-header start run =
-      let p : Squeeze = record { header = true; start = start; run = run } in
+  in-header : (n : ℕ) (start : Bool) (run : ℕ) → By (record { headers = suc n; start = start; run = run })
+  unfolding squeezedFrom standing squeezeNext
+  in-header n start run =
+      let p : Squeeze = record { headers = suc n; start = start; run = run } in
+      let begun = lt-ltb 0 (suc n) (omega arith) in
+      let less : suc n - 1 ≡ n = omega arith in
       by-test (isNumeral b) (λ r. By p)
       (λ d.
       by-test (ltb run RUN) (λ r. By p)
-      (λ e. rw (d, no-feed b d, and-false start, e, lt-leb RUN run (ltb-true run RUN e), add-one run))
-      (λ e. rw (d, no-feed b d, and-false start, e, le-leb RUN run (ltb-false run RUN e))))
-      (λ d. by-test (start && eqb b LF) (λ r. By p) (λ e. rw (d, e)) (λ e. rw (d, e)))
+      (λ e. rw (begun, d, no-feed b d, and-false start, e, lt-leb RUN run (ltb-true run RUN e), add-one run))
+      (λ e. rw (begun, d, no-feed b d, and-false start, e, le-leb RUN run (ltb-false run RUN e))))
+      (λ d. by-test (start && eqb b LF) (λ r. By p) (λ e. rw (begun, d, e, less)) (λ e. rw (begun, d, e)))
 
   pub one-byte : (p : Squeeze) → By p
-  unfolding squeezedBy standing squeezeNext
-  one-byte p = go (p .header)
+  unfolding squeezedFrom standing squeezeNext
+  one-byte p = go (p .headers)
     where
-      go : (header : Bool) → By (record { header = header; start = p .start; run = p .run })
-      go true = in-header (p .start) (p .run)
-      go false = refl
+      go : (headers : ℕ) → By (record { headers = headers; start = p .start; run = p .run })
+      go zero = refl
+      go (suc n) = in-header n (p .start) (p .run)
 
 pub none : (p : Squeeze) → squeezedBy p [] ≡ []
-unfolding squeezedBy squeezedFrom
-none p = go (p .header)
-  where
-    go : (header : Bool) → (if header then squeezedFrom (p .start) (p .run) [] else []) ≡ []
-    go true = refl
-    go false = refl
+none p = squeezed-none (p .headers) (p .start) (p .run)
 
--- behind the header a text stands as it is
-pub closed-next : (p : Squeeze) (b : ℕ) → p .header ≡ false → squeezeNext p b ≡ p
+-- behind the last header a text stands as it is
+pub closed-next : (p : Squeeze) (b : ℕ) → p .headers ≡ 0 → squeezeNext p b ≡ p
 unfolding squeezeNext
 closed-next p b e = rw e
 
-pub stands-all : (p : Squeeze) (s : List ℕ) → p .header ≡ false → (squeezedBy p s ≡ s) × (squeezeAfter p s ≡ p)
-unfolding squeezedBy squeezeAfter
+stands-all : (p : Squeeze) (s : List ℕ) → p .headers ≡ 0 → (squeezedBy p s ≡ s) × (squeezeAfter p s ≡ p)
+unfolding squeezedFrom squeezeAfter
 stands-all p [] e = (rw e, refl)
 stands-all p (b ∷ t) e = (rw e, rw (closed-next p b e) (stands-all p t e .1))
 
@@ -83,7 +80,7 @@ split (b ∷ a) c p =
 
 pub few : (p : Squeeze) (b : ℕ) → length (standing p b) ≤ 1
 unfolding standing
-few p b = go (p .header && (isNumeral b && leb RUN (p .run)))
+few p b = go (inHeader p && (isNumeral b && leb RUN (p .run)))
   where
     go : (out : Bool) → length (if out then [] else b ∷ []) ≤ 1
     go true = omega arith
@@ -116,7 +113,7 @@ module _ (p : Squeeze) (row : List ℕ) (n left at : ℕ) (behind : left ≤ at)
 
   put : take (left + length (standing p b)) (set row left b) ≡ take left row ++ standing p b
   unfolding standing
-  put = go (p .header && (isNumeral b && leb RUN (p .run)))
+  put = go (inHeader p && (isNumeral b && leb RUN (p .run)))
     where
       go : (out : Bool) → take (left + length (if out then [] else b ∷ [])) (set row left b) ≡ take left row ++ (if out then [] else b ∷ [])
       go true = rw (add-zero left, append-nil (take left row)) (take-set-le left row left b (omega arith))
@@ -138,7 +135,7 @@ module _ (p : Squeeze) (row : List ℕ) (n left at : ℕ) where
   unfolding squeezeAfter
   all-come h fits = rw (ended h fits, none p) (append-nil (take left row), refl)
 
-  pub rest-stands : p .header ≡ false → left ≡ at → left ≤ n
+  pub rest-stands : p .headers ≡ 0 → left ≡ at → left ≤ n
       → (take left row ++ squeezedBy p (coming row n at) ≡ take n row) × (squeezeAfter p (coming row n at) ≡ p)
   rest-stands closed e h =
       let s = stands-all p (coming row n at) closed in

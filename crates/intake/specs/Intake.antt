@@ -57,9 +57,9 @@ unfoldable pub storeAll : List ℕ → Intake → List ℕ → List ℕ
 storeAll store i [] = store
 storeAll store i (b ∷ t) = if hasRoom store i then storeAll (placed store (i .n) (kept i b)) (after i b) t else store
 
--- the pieces of the longest day: its header, and a block for each hour
+-- the pieces of the longest text: a day's header and those of the days before and after it, and a block for each hour
 abbrev pub PIECES : ℕ
-PIECES = 26
+PIECES = 28
 
 -- a text of `pieces` at its beginning
 abbrev pub atFirst : ℕ → Intake
@@ -67,9 +67,9 @@ atFirst pieces = record { n = 0; run = 0; start = true; left = pieces }
 
 -- ---- a text that comes in reads
 
--- at its beginning, which is a header's or not
-abbrev pub begun : (pieces : ℕ) → (header : Bool) → Taken
-begun pieces header = record { kept = atFirst pieces; squeezed = squeezeFirst header; ended = false }
+-- at its beginning, with so many headers
+abbrev pub begun : (pieces headers : ℕ) → Taken
+begun pieces headers = record { kept = atFirst pieces; squeezed = squeezeFirst headers; ended = false }
 
 -- a part of it came, perhaps none: the store holds what is kept of that too
 pub record TakenMore (store : List ℕ) (t : Taken) (last : List ℕ) (r : Taken) : Type 0 where
@@ -78,12 +78,11 @@ pub record TakenMore (store : List ℕ) (t : Taken) (last : List ℕ) (r : Taken
   pub state : r .kept ≡ afterAll store (t .kept) (squeezedBy (t .squeezed) part)
   pub holds : last ≡ storeAll store (t .kept) (squeezedBy (t .squeezed) part)
 
--- some text was taken in from its beginning, its header squeezed where it has one: the store holds what is kept of it, and so many
--- bytes are
-pub record TakenIn (store : List ℕ) (pieces : ℕ) (header : Bool) (last : List ℕ) (count : ℕ) : Type 0 where
+-- some text was taken in from its beginning, its headers squeezed: the store holds what is kept of it, and so many bytes are
+pub record TakenIn (store : List ℕ) (pieces headers : ℕ) (last : List ℕ) (count : ℕ) : Type 0 where
   pub text : List ℕ
-  pub counted : count ≡ afterAll store (atFirst pieces) (squeezedBy (squeezeFirst header) text) .n
-  pub holds : last ≡ storeAll store (atFirst pieces) (squeezedBy (squeezeFirst header) text)
+  pub counted : count ≡ afterAll store (atFirst pieces) (squeezedBy (squeezeFirst headers) text) .n
+  pub holds : last ≡ storeAll store (atFirst pieces) (squeezedBy (squeezeFirst headers) text)
 
 -- a byte is kept behind the first `needed` of so many pieces
 unfoldable pub goesPast : Intake → (pieces needed : ℕ) → Bool

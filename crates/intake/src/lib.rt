@@ -12,8 +12,9 @@ use libc::STDIN_FILENO;
 mod squeeze;
 mod stretch;
 
-// The longest day is a header and 25 blocks. Of each piece at most lines::PIECE bytes and three more are kept, and a byte of what follows.
-pub const PIECES: usize = 26;
+// The longest input is a day's: three headers, its own and those of the days before and after it, and 25 blocks. A line's day and an import have fewer,
+// and are settled alike however many more are kept. Of each piece at most lines::PIECE bytes and three more are, and a byte of what follows.
+pub const PIECES: usize = 28;
 
 pub const DAY: usize = PIECES * (lines::PIECE + 3) + 5;
 
@@ -164,20 +165,20 @@ pub fn keep(store: &mut [u8], i: Intake, bytes: &[u8]) -> Intake
     state
 }
 
-// A text that comes in reads: what is kept, how far its header is squeezed, and whether its end was met.
+// A text that comes in reads: what is kept, how far its headers are squeezed, and whether its end was met.
 pub struct Taken {
     pub kept: Intake,
     pub squeezed: squeeze::Squeeze,
     pub ended: bool,
 }
 
-// A text at its beginning. That of a day's sheet has a header.
-pub fn begin(pieces: usize, header: bool) -> Taken
-    ensures { λ r. ⌜ r ≡ begun pieces header ⌝ }
+// A text at its beginning, with so many headers.
+pub fn begin(pieces: usize, headers: usize) -> Taken
+    ensures { λ r. ⌜ r ≡ begun pieces headers ⌝ }
 {
     Taken {
         kept: at_first(pieces),
-        squeezed: squeeze::at_first(header),
+        squeezed: squeeze::at_first(headers),
         ended: false,
     }
 }
@@ -242,7 +243,7 @@ pub fn take_front(store: &mut [u8]) -> Front
     ensures within { λ r. ⌜ Counts (r .n) (now (store .exit)) ⌝ }
     ensures taken { λ r. ⌜ FrontTaken (now (store .exit)) r ⌝ }
 {
-    let mut squeezed = squeeze::at_first(true);
+    let mut squeezed = squeeze::at_first(1);
     let mut n: usize = 0;
     let mut turns = u64::MAX;
     while turns > 0 {
@@ -252,7 +253,7 @@ pub fn take_front(store: &mut [u8]) -> Front
         if part.ended {
             return Front { n, ended: true };
         }
-        if !squeezed.header {
+        if squeezed.headers == 0 {
             return Front { n, ended: false };
         }
         if lines::PIECE <= n {

@@ -1,4 +1,4 @@
-// The header of a text that comes in parts, without its long runs of digits: so one that is as printed has a bounded length.
+// The headers of a text that comes in parts, without their long runs of digits: so one that is as printed has a bounded length.
 ghost use mathlib.Core.Path.{_≡_};
 ghost use Prim.Native.Nat.{_≤_};
 ghost use lib.ListN.{length, take};
@@ -9,9 +9,9 @@ ghost use Rattle.intake.specs.Squeeze.{standing, squeezeFirst, squeezeNe
 // So many digits of a run stand: no number has as many, and no row of marks that is read.
 const RUN: usize = 32;
 
-// How far a text is squeezed: it is still in the header, its first piece, or not, a line begins here or not, and `run` digits stand in front.
+// How far a text is squeezed: `headers` of its first pieces are still to close, a line begins here or not, and `run` digits stand in front.
 pub struct Squeeze {
-    pub header: bool,
+    pub headers: usize,
     pub start: bool,
     pub run: usize,
 }
@@ -22,12 +22,12 @@ pub struct Squeezed {
     pub state: Squeeze,
 }
 
-// A text at its beginning. One without a header is not squeezed.
-pub fn at_first(header: bool) -> Squeeze
-    ensures { λ r. ⌜ r ≡ squeezeFirst header ⌝ }
+// A text at its beginning, with so many headers. One without any is not squeezed.
+pub fn at_first(headers: usize) -> Squeeze
+    ensures { λ r. ⌜ r ≡ squeezeFirst headers ⌝ }
 {
     Squeeze {
-        header: header,
+        headers: headers,
         start: true,
         run: 0,
     }
@@ -46,10 +46,10 @@ fn is_digit(b: u8) -> bool
 fn stands(state: Squeeze, b: u8) -> usize
     ensures { λ r. ⌜ r ≡ length (standing state b) ⌝ }
 {
-    let header = state.header;
+    let headers = state.headers;
     let run = state.run;
     let digit = is_digit(b);
-    if header & (digit & (RUN <= run)) {
+    if (0 < headers) & (digit & (RUN <= run)) {
         return 0;
     }
     1
@@ -59,36 +59,39 @@ fn stands(state: Squeeze, b: u8) -> usize
 fn next(state: Squeeze, b: u8) -> Squeeze
     ensures { λ r. ⌜ r ≡ squeezeNext state b ⌝ }
 {
-    let header = state.header;
+    let headers = state.headers;
     let start = state.start;
     let run = state.run;
-    if !header {
+    if headers == 0 {
         return state;
+    }
+    let feed = b == 10;
+    if start & feed {
+        return at_first(headers - 1);
     }
     let digit = is_digit(b);
     if !digit {
-        let feed = b == 10;
         return Squeeze {
-            header: !(start & feed),
+            headers: headers,
             start: feed,
             run: 0,
         };
     }
     if run < RUN {
         return Squeeze {
-            header: true,
+            headers: headers,
             start: false,
             run: run + 1,
         };
     }
     Squeeze {
-        header: true,
+        headers: headers,
         start: false,
         run: run,
     }
 }
 
-// Squeezes the first n bytes to the front of their row. Where the header is closed and nothing was left out, the rest stands already.
+// Squeezes the first n bytes to the front of their row. Where the last header is closed and nothing was left out, the rest stands already.
 pub fn in_place(bytes: &mut [u8], n: usize, first: Squeeze) -> Squeezed
     requires { ⌜ n ≤ length (now bytes) ⌝ }
     ensures within { λ r. ⌜ Counts (r .n) (now (bytes .exit)) ⌝ }
@@ -99,8 +102,8 @@ pub fn in_place(bytes: &mut [u8], n: usize, first: Squeeze) -> Squeezed
     let mut at: usize = 0;
     let mut left: usize = 0;
     while at < n {
-        let header = state.header;
-        if !header {
+        let headers = state.headers;
+        if headers == 0 {
             if left == at {
                 return Squeezed { n: n, state: state };
             }

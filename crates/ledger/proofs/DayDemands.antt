@@ -1,10 +1,10 @@
--- The theorems of the definitions of a day: what its hours are answered, the marks, demand 3, the total, and bounded memory. Those of a
--- `Front` hold of every sheet's, `frontOf s`; where no kind is named they hold of every kind's.
-use mathlib.Core.Path.{_≡_, refl, sym, ap, _∙_, subst}
-use mathlib.Core.Bool.{true, false}
+-- The theorems of the definitions of a day: what its hours are answered, demand 3, the total, and bounded memory. Those of a `Front` hold of every
+-- input's, `frontOf s`; where no kind is named they hold of every kind's. What its headers and their marks say is in MidnightDemands.
+use mathlib.Core.Path.{_≡_, refl, sym, ap, _∙_}
+use mathlib.Core.Bool.{true}
 use mathlib.Core.List.{List, [], _∷_, _++_}
 use mathlib.Core.Logic.{_↔_}
-use Prim.Native.Nat.{ℕ, suc, _+_, _≤_, _<_}
+use Prim.Native.Nat.{ℕ, _+_, _≤_, _<_}
 use native.Mathlib.Omega.{arith}
 use lib.IntN.{ℤ, pos}
 use Rattle.exact.specs.Whole.{sumTo}
@@ -13,7 +13,6 @@ use Rattle.tariff.specs.declared.Hour.{Hour}
 use Rattle.tariff.specs.declared.Expected.the-variants.{Any, Says}
 use Rattle.tariff.specs.Sheet.{LONGEST-DAY}
 use Rattle.tariff.specs.Reply.{paid, refused, ORDER, DERATE, REACH, clear, fault}
-use Rattle.tariff.specs.Eligible.{near, excluded}
 use Rattle.tariff.specs.Outcome.{replyBy}
 use Rattle.tariff.specs.Checks.{rangeIn, orderIn}
 use Rattle.tariff.specs.Hour.{range, reply}
@@ -21,9 +20,7 @@ use Rattle.tariff.specs.Demand.{FirstUnpriced, UnpricedBeforeDerate, ExceededBe
 use Rattle.tariff.specs.Total.{total, noTotal, totalOf, Pays, paidCents}
 use Rattle.tariff.proofs.Demands.{order-exactly-when-another-hour}
 use Rattle.tariff.proofs.Totals.{total-paid, total-refused, total-surplus}
-use Rattle.tariff.proofs.Counts.{hours-few, own-hour}
-use Rattle.marks.specs.Alike.{AlikeBut, AlikeToX4}
-use Rattle.marks.proofs.Far.{a-mark-moves-no-further-than-two, without-rtc}
+use Rattle.tariff.proofs.Counts.{own-hour}
 use Rattle.lines.specs.Pieces.{restAfter, isSome, piece}
 use Rattle.lines.specs.Squeezed.{squeezed}
 use Rattle.intake.specs.Intake.{keptOf, atFirst}
@@ -36,20 +33,20 @@ use Rattle.sheet.proofs.BlockDemands.{
   block-refused-for-reach-exactly-when-some-kilowatt-is-unpriced,
   block-refused-for-derate-exactly-when-some-reduction-exceeds,
 }
-use Rattle.header.specs.Header.{countOf, marksOf}
 use Rattle.ledger.specs.Day.{generatorAnswer, Front, frontOf, dayReply, surplus, dayTotal}
 use Rattle.ledger.specs.Demand.{SettledAlike, BlocksApart, PricedAlike, DaysApart, BothRead}
 use Rattle.ledger.proofs.HourOfDay.{refused-hour, hour-clear, own-block, read-reply, nothing-left}
-use Rattle.ledger.proofs.SheetFront.{marks-settle, front-append, generator-decides, sheet-laws}
+use Rattle.ledger.proofs.SheetFront.{generator-decides, sheet-laws}
+use Rattle.ledger.proofs.FrontAlone.{front-stays, front-behind}
 use Rattle.ledger.proofs.AnyFront.{kept-settled, append-settled}
 use Rattle.ledger.proofs.BlocksApart.{blocks-alike, blocks-extended, blocks-added}
 use Rattle.ledger.proofs.TwoDays.{one-hour, other-hour, hours-settled}
 
 -- ---- the hours of a day
 
--- No sheet's day has more than 25.
+-- No day has more than 25.
 pub no-day-is-longer : (s : List ℕ) → frontOf s .hours ≤ LONGEST-DAY
-no-day-is-longer s = hours-few (countOf s)
+no-day-is-longer = sheet-laws .few
 
 -- A refused header refuses every hour, with its own number and place.
 pub a-refused-header-refuses-every-hour :
@@ -101,39 +98,6 @@ unfolding replyBy rangeIn orderIn
 its-own-hour-is-as-any f kind e few k h u x own =
     read-reply f kind e k h x ∙ rw (true-eqZ (h .hour) (pos k) own, own, own-hour (f .hours) k u few, own-hour LONGEST-DAY k (omega arith) (omega arith))
 
--- ---- the marks
-
--- A mark moves the answers of its own hour and of at most two before and after: two sheets with the same blocks whose marks are alike
--- in every hour but g are answered alike in every hour that is further from g.
-pub a-mark-moves-no-hour-further-than-two :
-    (s t : List ℕ)
-    → frontOf s .fault ≡ clear
-    → frontOf t .fault ≡ clear
-    → frontOf s .hours ≡ frontOf t .hours
-    → frontOf s .body ≡ frontOf t .body
-    → (g : ℕ)
-    → AlikeBut g (marksOf s) (marksOf t)
-    → (k : ℕ)
-    → near g k ≡ false
-    → dayReply (frontOf s) k ≡ dayReply (frontOf t) k
-a-mark-moves-no-hour-further-than-two s t one other hours body g alike k far =
-    marks-settle s t one other hours body k (λ n. a-mark-moves-no-further-than-two n (marksOf s) (marksOf t) g k alike far)
-
--- Without `rtc` the rows x5 and x6 move no answer.
-pub without-rtc-x5-and-x6-move-no-hour :
-    (s t : List ℕ)
-    → frontOf s .fault ≡ clear
-    → frontOf t .fault ≡ clear
-    → frontOf s .hours ≡ frontOf t .hours
-    → frontOf s .body ≡ frontOf t .body
-    → marksOf s .rtc ≡ false
-    → marksOf t .rtc ≡ false
-    → AlikeToX4 (marksOf s) (marksOf t)
-    → (k : ℕ)
-    → dayReply (frontOf s) k ≡ dayReply (frontOf t) k
-without-rtc-x5-and-x6-move-no-hour s t one other hours body off off′ alike k =
-    marks-settle s t one other hours body k (λ n. without-rtc n (marksOf s) (marksOf t) k off off′ alike)
-
 -- ---- demand 3
 
 -- REACH is given exactly when no check from 1 to 5 refuses and a kilowatt that must be priced has no price: at the first interval that
@@ -175,18 +139,29 @@ an-hour-is-refused-for-derate-exactly-when-some-reduction-exceeds f kind e k h x
     rw (an-hour-of-a-day-is-its-blocks f kind e k 30 (omega arith))
     (block-refused-for-derate-exactly-when-some-reduction-exceeds (piece k (f .body)) h (f .isExcluded k) (Says (pos k) (f .hours)) 30 x)
 
--- Two sheets with one header, whose blocks differ in their curve lines only, are two such days.
-pub sheets-with-one-header-are-apart :
-    (head body other : List ℕ)
-    → frontOf head .fault ≡ clear
-    → frontOf head .body ≡ []
-    → ((k : ℕ) → k < frontOf head .hours → BlocksApart (piece k body) (piece k other))
-    → restAfter (frontOf head .hours) body ≡ restAfter (frontOf head .hours) other
-    → DaysApart (frontOf (head ++ body)) (frontOf (head ++ other))
-sheets-with-one-header-are-apart head body other e alone blocks rest =
-    subst (λ f. DaysApart f (frontOf (head ++ other))) (sym (front-append head e alone body))
-    (subst (DaysApart _) (sym (front-append head e alone other))
-    (record { one-kind = refl; other-kind = refl; one-read = refl; other-read = refl; hours = refl; excluded = λ k u. refl; blocks = blocks; surplus = rest }))
+-- Two days with the same headers, whose blocks differ in their curve lines only, are two such days.
+pub days-with-the-same-headers-are-apart :
+    (heads body other : List ℕ)
+    → frontOf heads .fault ≡ clear
+    → frontOf heads .body ≡ []
+    → ((k : ℕ) → k < frontOf heads .hours → BlocksApart (piece k body) (piece k other))
+    → restAfter (frontOf heads .hours) body ≡ restAfter (frontOf heads .hours) other
+    → DaysApart (frontOf (heads ++ body)) (frontOf (heads ++ other))
+days-with-the-same-headers-are-apart heads body other e alone blocks rest =
+    let one = front-stays heads e body in
+    let two = front-stays heads e other in
+    let behind-one = front-behind heads e body alone in
+    let behind-two = front-behind heads e other alone in
+    record {
+      one-kind = refl;
+      other-kind = refl;
+      one-read = one .fault ∙ e;
+      other-read = two .fault ∙ e;
+      hours = one .hours ∙ sym (two .hours);
+      excluded = λ k u. one .isExcluded k (rw (one .hours) at u) ∙ sym (two .isExcluded k (rw (one .hours) at u));
+      blocks = λ k u. rw (behind-one, behind-two) (blocks k (rw (one .hours) at u));
+      surplus = (λ i. restAfter (one .hours i) (behind-one i)) ∙ rest ∙ (λ i. restAfter (sym (two .hours) i) (sym behind-two i));
+    }
 
 -- Only the prices of the kilowatts between D and the limit matter: two days whose blocks differ in their curve lines only, and whose hours
 -- are the same, or refused by no check from 1 to 4 and with prices that agree on every kilowatt that must be priced, have the same
@@ -254,17 +229,17 @@ what-follows-withholds-the-total f b t e = ap (λ (l : List ℕ). totalOf (dayRe
 
 -- ---- bounded memory
 
--- A day is settled alike from what is kept of its sheet, of any length: the header, with 32 digits of a longer run, and each block up to its
--- first bytes and its empty line, and a byte of what follows; and of no matter how many pieces more than the day has.
-pub a-kept-sheet-is-settled-alike :
+-- A day is settled alike from what is kept of its input, of any length: the three headers, with 32 digits of a longer run, and each block up to its
+-- first bytes and its empty line, and a byte of what follows; and of no matter how many pieces more than the input has.
+pub a-kept-day-is-settled-alike :
     (s : List ℕ) (pieces : ℕ)
-    → frontOf s .hours < pieces
-    → SettledAlike (frontOf (keptOf (atFirst pieces) (squeezed s))) (frontOf s)
-a-kept-sheet-is-settled-alike = kept-settled frontOf generatorAnswer sheet-laws
+    → frontOf s .hours + 3 ≤ pieces
+    → SettledAlike (frontOf (keptOf (atFirst pieces) (squeezed 3 s))) (frontOf s)
+a-kept-day-is-settled-alike = kept-settled 3 frontOf generatorAnswer sheet-laws
 
 -- Where a byte stands behind the last block, those that follow it settle nothing: a program may stop reading there.
 pub behind-a-surplus-byte-nothing-settles :
     (s t : List ℕ)
-    → isSome (restAfter (suc (frontOf s .hours)) s) ≡ true
+    → isSome (restAfter (3 + frontOf s .hours) s) ≡ true
     → SettledAlike (frontOf (s ++ t)) (frontOf s)
-behind-a-surplus-byte-nothing-settles = append-settled frontOf generatorAnswer sheet-laws
+behind-a-surplus-byte-nothing-settles = append-settled 3 frontOf generatorAnswer sheet-laws

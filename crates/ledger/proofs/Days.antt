@@ -45,7 +45,7 @@ module _ (f : Front) where
 
     alike : SettledAlike walked f
     alike =
-        settled-alike walked f (sym e) refl
+        settled-alike walked f refl e refl
         (λ k u. hour-same walked f k (sym e) refl (rw says (marked-word (f .isExcluded) (f .hours) k u))
         (λ i. kind i (restAfter k (body i))))
         (ap (λ (t : List ℕ). isSome (restAfter (f .hours) t)) body)

@@ -84,20 +84,22 @@ module _ (f g : Front) where
   hour-same k e n x b = λ i. otherwise (e i) (b i (x i) (Says (pos k) (n i)))
 
   -- refused alike they answer every hour alike, and no total is given
-  pub both-refused : (number place : ℕ) → f .fault ≡ fault number place → g .fault ≡ fault number place → f .hours ≡ g .hours → 0 < g .hours
-      → SettledAlike f g
-  both-refused number place e e′ n some = record {
+  pub both-refused : (number place : ℕ) → f .fault ≡ fault number place → g .fault ≡ fault number place → f .header ≡ g .header → f .hours ≡ g .hours
+      → 0 < g .hours → SettledAlike f g
+  both-refused number place e e′ which n some = record {
     fault = e ∙ sym e′;
+    header = λ number place q. which;
     hours = n;
     answers = λ k u. refused-hour f number place e k ∙ sym (refused-hour g number place e′ k);
     total = no-total f number place e (rw n some) ∙ sym (no-total g number place e′ some);
   }
 
-  -- with the same answers they have the same total, where something stands behind the blocks of both or of neither
-  pub settled-alike : f .fault ≡ g .fault → f .hours ≡ g .hours → ((k : ℕ) → k < f .hours → dayReply f k ≡ dayReply g k)
+  -- read both, and with the same answers, they have the same total, where something stands behind the blocks of both or of neither
+  pub settled-alike : f .fault ≡ clear → g .fault ≡ clear → f .hours ≡ g .hours → ((k : ℕ) → k < f .hours → dayReply f k ≡ dayReply g k)
       → isSome (surplus f) ≡ isSome (surplus g) → SettledAlike f g
-  settled-alike e n same more = record {
-    fault = e;
+  settled-alike e e′ n same more = record {
+    fault = e ∙ sym e′;
+    header = λ number place q. impossible cc;
     hours = n;
     answers = same;
     total = total-same (dayReply f) (dayReply g) (f .hours) same more ∙ ap (λ (m : ℕ). totalOf (dayReply g) m (isSome (surplus g))) n;

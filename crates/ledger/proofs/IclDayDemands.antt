@@ -5,6 +5,7 @@ use mathlib.Core.Bool.{false, true}
 use mathlib.Core.List.{List, [], _++_}
 use mathlib.Core.Logic.{_↔_}
 use Prim.Native.Nat.{ℕ, suc, _+_, _≤_, _<_}
+use native.Mathlib.Numerals.{one-add}
 use native.Mathlib.Omega.{arith}
 use lib.IntN.{ℤ, pos}
 use Rattle.tariff.specs.declared.IclHour.{IclHour}
@@ -179,12 +180,12 @@ adding-curve-to-an-icl-day-changes-nothing f g d pays longer =
 pub a-kept-icl-day-is-settled-alike :
     (s : List ℕ) (pieces : ℕ)
     → iclFrontOf s .hours < pieces
-    → SettledAlike (iclFrontOf (keptOf (atFirst pieces) (squeezed s))) (iclFrontOf s)
-a-kept-icl-day-is-settled-alike = kept-settled iclFrontOf iclAnswer icl-laws
+    → SettledAlike (iclFrontOf (keptOf (atFirst pieces) (squeezed 1 s))) (iclFrontOf s)
+a-kept-icl-day-is-settled-alike s pieces enough = kept-settled 1 iclFrontOf iclAnswer icl-laws s pieces (omega arith)
 
 -- Where a byte stands behind the last block, those that follow it settle nothing: a program may stop reading there.
 pub behind-a-surplus-byte-nothing-settles-an-icl-day :
     (s t : List ℕ)
     → isSome (restAfter (suc (iclFrontOf s .hours)) s) ≡ true
     → SettledAlike (iclFrontOf (s ++ t)) (iclFrontOf s)
-behind-a-surplus-byte-nothing-settles-an-icl-day = append-settled iclFrontOf iclAnswer icl-laws
+behind-a-surplus-byte-nothing-settles-an-icl-day s t more = append-settled 1 iclFrontOf iclAnswer icl-laws s t (rw (one-add (iclFrontOf s .hours)) more)

@@ -13,7 +13,7 @@ use Rattle.tariff.specs.declared.Expected.{Expected}
 use Rattle.tariff.specs.Reply.{Reply, Verdict, clear, shown}
 use Rattle.tariff.proofs.Counts.{hours-some, hours-few}
 use Rattle.marks.specs.Word.{word}
-use Rattle.lines.specs.Pieces.{firstPiece}
+use Rattle.lines.specs.Pieces.{restAfter, firstPiece}
 use Rattle.lines.specs.Squeezed.{squeezed}
 use Rattle.intake.proofs.Kept.{FirstKept, short, long}
 use Rattle.header.specs.declared.layout.Form.the-variants.{Icl}
@@ -53,10 +53,11 @@ as-marked-icl s e k u =
 
 -- ---- what the code reads of it
 pub icl-front-read : (s : List ℕ) (r : code.Front) → shown (r .found) ≡ iclHeaderFault s
-    → r .excluded ≡ word (iclHoursOf s) (iclUnmarkedUnder (iclHeaderFault s) s) → r .hours ≡ iclHoursOf s → r .next ≡ iclNextUnder (iclHeaderFault s) s
+    → r .header ≡ 0 → r .excluded ≡ word (iclHoursOf s) (iclUnmarkedUnder (iclHeaderFault s) s) → r .hours ≡ iclHoursOf s → r .next ≡ iclNextUnder (iclHeaderFault s) s
     → FrontRead s (iclFrontOf s) r
-icl-front-read s r found says hours next = record {
+icl-front-read s r found which says hours next = record {
   fault = found;
+  header = which;
   hours = hours;
   some = hours-some (iclCountOf s);
   few = hours-few (iclCountOf s);
@@ -75,23 +76,25 @@ abbrev answered : IclBlock → Bool → Expected → Reply
 answered b isExcluded expected = iclReplyTo b isExcluded expected 30
 
 same-front : {s t : List ℕ} → SameIclHeader s t → SameFront (iclFrontOf s) (iclFrontOf t)
-same-front o = record { fault = o .fault; hours = o .hours; isExcluded = λ k u. o .unmarked k (rw (o .hours) u) }
+same-front o = record { fault = o .fault; header = refl; hours = o .hours; isExcluded = λ k u. o .unmarked k (rw (o .hours) u) }
 
-header-kept : (got s : List ℕ) → FirstKept got (squeezed s) → SameIclHeader got s
-header-kept got s (short e) = icl-piece-header got s e
-header-kept got s (long e) = icl-bytes-header got s e
+header-kept : (got s : List ℕ) → FirstKept got (squeezed 1 s) → SameIclHeader got s
+header-kept got s (short e) = icl-piece-header 0 got s e
+header-kept got s (long e) = icl-bytes-header 0 got s e
 
 pub icl-decides : (s : List ℕ) → iclAnswer (firstPiece s) ≡ iclAnswer s
 icl-decides s = ap answered (icl-piece-decides s)
 
-pub icl-laws : FrontLaws iclFrontOf iclAnswer
+-- its front is one piece
+pub icl-laws : FrontLaws 1 iclFrontOf iclAnswer
+unfolding restAfter
 icl-laws = record {
   kind = λ s. refl;
   some = λ s. hours-some (iclCountOf s);
   few = λ s. hours-few (iclCountOf s);
   blocks = icl-clear-behind;
-  by-first = λ s t e. same-front (icl-same-first s t e);
-  by-kept = λ got s e. same-front (header-kept got s e);
+  by-first = λ s t e. same-front (icl-same-first s t (e 0 (omega arith)));
+  by-kept = λ got s e. same-front (header-kept got s (e 0 (omega arith)));
   by-block = λ got text e. ap answered (block-kept got text e);
 }
 

@@ -1,4 +1,4 @@
--- What is proved of days: `DayDemands` and `IclDayDemands` state it of the definitions, `Unique` that a day call has one reply. The others hold the laws that
+-- What is proved of days: `DayDemands`, `MidnightDemands` and `IclDayDemands` state it of the definitions, `Unique` that a day call has one reply. The others hold the laws that
 -- these and the functions' proofs cite.
 pub mod Totals
 pub mod Walks
@@ -7,11 +7,17 @@ pub mod Unique
 pub mod RoomEnough
 pub mod HourOfDay
 pub mod AnyFront
+pub mod ThreeHeads
 pub mod SheetFront
+pub mod FrontAlone
+pub mod StoredDays
+pub mod StoredAlike
+pub mod Midnight
 pub mod IclFront
 pub mod ByReading
 pub mod BlocksApart
 pub mod IclBlocksApart
 pub mod TwoDays
 pub mod DayDemands
+pub mod MidnightDemands
 pub mod IclDayDemands

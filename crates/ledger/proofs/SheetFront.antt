@@ -1,86 +1,131 @@
--- The front of a sheet is its header: which hours it excludes, and that its own bytes decide it, and what is kept of them.
-use mathlib.Core.Path.{_≡_, refl, sym, ap, _∙_}
-use mathlib.Core.Bool.{Bool}
-use mathlib.Core.List.{List, [], _++_}
-use Prim.Native.Nat.{ℕ}
+-- The front of what `day` reads is three headers: what the code reads of it, and that their own bytes decide it, and what is kept of them.
+use mathlib.Core.Path.{_≡_, refl, sym, ap, _∙_, subst}
+use mathlib.Core.Bool.{Bool, true}
+use mathlib.Core.List.{List, [], _∷_}
+use Prim.Native.Nat.{ℕ, zero, suc, _+_, _≤_, _<_}
+use native.Mathlib.Omega.{arith}
+use lib.Dec.{eqb}
 use lib.ListN.{length, drop}
-use lib.Seq.{drop-append-seam}
+use lib.Seq.{getD-take}
+use Rattle.exact.specs.Choice.{if_then_else_}
+use Rattle.exact.specs.Whole.{eqZ}
+use Rattle.exact.proofs.Parts.{by-test}
 use Rattle.tariff.specs.declared.Expected.{Expected}
-use Rattle.tariff.specs.declared.Marks.{Marks}
-use Rattle.tariff.specs.Reply.{Reply, Verdict, clear, shown}
-use Rattle.tariff.specs.Eligible.{excluded}
+use Rattle.tariff.specs.declared.MarkedDay.{MarkedDay}
+use Rattle.tariff.specs.Sheet.{LONGEST-DAY, isCount}
+use Rattle.tariff.specs.Reply.{RANGE, Reply, clear, unless}
+use Rattle.tariff.specs.Eligible.{excluded, noDay}
 use Rattle.tariff.proofs.Counts.{hours-some, hours-few}
+use Rattle.text.specs.Text.{LF, byteAt}
 use Rattle.marks.specs.Word.{word}
-use Rattle.lines.specs.Pieces.{restAfter, firstPiece}
+use Rattle.marks.specs.Days.{within}
+use Rattle.marks.proofs.Excluded.{word-of-day}
+use Rattle.keys.specs.Keys.{UNIT-LINE}
+use Rattle.lines.specs.Pieces.{PIECE, restAfter, firstPiece, piece}
 use Rattle.lines.specs.Squeezed.{squeezed}
+use Rattle.lines.proofs.Pieces.{Shares, whole, empty, lines, piece-shares}
+use Rattle.lines.proofs.Squeezed.{first-byte-stands, rest-squeezed}
 use Rattle.intake.proofs.Kept.{FirstKept, short, long}
 use Rattle.blocks.specs.Block.{Block, blockOf}
 use Rattle.sheet.specs.Settle.{replyTo}
 use Rattle.sheet.proofs.BlockDemands.{first-bytes-decide}
 use Rattle.sheet.proofs.Closing.{piece-decides}
-use Rattle.header.specs.Header.{formOf, countOf, hoursOf, headerFault, marksOf, marksUnder, nextUnder}
-use Rattle.header.proofs.HeaderEnds.{next-inside, ends-text}
-use Rattle.header.proofs.HeaderAlong.{fault-append, hours-append, marks-append, next-append}
-use Rattle.header.proofs.HeaderBehind.{clear-behind}
+use Rattle.header.specs.Layout.{lineOf}
+use Rattle.header.specs.Header.{layoutBy, isForm2, formBy, countOf, hoursOf, unitLine}
+use Rattle.header.proofs.Forms.{unit-line}
 use Rattle.header.proofs.HeaderAlike.{SameHeader}
 use Rattle.header.proofs.HeaderFirst.{same-first}
 use Rattle.header.proofs.HeaderLocal.{piece-header, bytes-header}
-use Rattle.ledger.specs.declared.front.Front as code
-use Rattle.ledger.specs.Day.{generatorAnswer, frontOf, dayReply}
-use Rattle.ledger.specs.Walk.{FrontRead}
-use Rattle.ledger.proofs.HourOfDay.{hour-same}
+use Rattle.ledger.specs.declared.heads.Head.{Head}
+use Rattle.ledger.specs.declared.heads.Judged.{Judged}
+use Rattle.ledger.specs.Headers.{isLacking, daySaid, neighbourOf, neighbourFault, unitFault, inHeader, firstRefused, headersFault}
+use Rattle.ledger.specs.Day.{generatorAnswer, frontOf}
+use Rattle.ledger.specs.Walk.{OwnRead, NeighbourRead, JudgedAs, FrontRead}
 use Rattle.ledger.proofs.AnyFront.{SameFront, FrontLaws}
 
--- ---- a header that is read excludes the hours that its marks say
-pub as-marked : (s : List ℕ) → frontOf s .fault ≡ clear → frontOf s .isExcluded ≡ excluded (hoursOf s) (marksOf s)
-as-marked s e = ap (λ (v : Verdict). excluded (hoursOf s) (marksUnder v s)) e
-
--- two sheets with as many hours and the same blocks: an hour that their marks exclude alike is answered alike
-pub marks-settle : (s t : List ℕ) → frontOf s .fault ≡ clear → frontOf t .fault ≡ clear → frontOf s .hours ≡ frontOf t .hours
-    → frontOf s .body ≡ frontOf t .body → (k : ℕ) → ((hours : ℕ) → excluded hours (marksOf s) k ≡ excluded hours (marksOf t) k)
-    → dayReply (frontOf s) k ≡ dayReply (frontOf t) k
-marks-settle s t one other hours body k e =
-    hour-same (frontOf s) (frontOf t) k (one ∙ sym other) hours
-    (ap (λ (out : ℕ → Bool). out k) (as-marked s one)
-    ∙ e (hoursOf s)
-    ∙ ap (λ (n : ℕ). excluded n (marksOf t) k) hours
-    ∙ ap (λ (out : ℕ → Bool). out k) (sym (as-marked t other)))
-    (ap (λ (b : List ℕ). generatorAnswer (restAfter k b)) body)
-
 -- ---- what the code reads of it
-pub front-read : (s : List ℕ) (r : code.Front) (m : Marks) → shown (r .found) ≡ headerFault s → m ≡ marksUnder (headerFault s) s
-    → r .hours ≡ hoursOf s → r .excluded ≡ word (hoursOf s) (excluded (hoursOf s) m) → r .next ≡ nextUnder (headerFault s) s
-    → FrontRead s (frontOf s) r
-front-read s r m found marks hours says next = record {
-  fault = found;
-  hours = hours;
-  some = hours-some (countOf s);
-  few = hours-few (countOf s);
-  excluded = says ∙ ap (λ (x : Marks). word (hoursOf s) (excluded (hoursOf s) x)) marks;
-  inside = rw next (next-inside (headerFault s) s);
-  body = ap (λ (n : ℕ). drop n s) next;
-}
 
--- ---- a header alone is the front of every sheet that begins with it
-module _ (head : List ℕ) (read : frontOf head .fault ≡ clear) (alone : frontOf head .body ≡ []) (body : List ℕ) where
-  ends : nextUnder (headerFault head) head ≡ length head
-  ends = ends-text (formOf head) (headerFault head) head alone
+neighbour-few : (t : List ℕ) → neighbourOf t .hours ≤ LONGEST-DAY
+neighbour-few t =
+    by-test (isLacking t) (λ b. (if b then noDay else daySaid t) .hours ≤ LONGEST-DAY) (λ e. omega arith) (λ e. hours-few (countOf t))
 
-  pub front-append : frontOf (head ++ body)
-      ≡ record { fault = clear; hours = hoursOf head; isExcluded = excluded (hoursOf head) (marksOf head); body = body; answer = generatorAnswer }
-  front-append = λ i. record {
-    fault = clears i;
-    hours = count i;
-    isExcluded = (as-marked (head ++ body) clears ∙ (λ j. excluded (count j) (marks-append head read ends body j))) i;
-    body = (ap (λ (n : ℕ). drop n (head ++ body)) (next-append head read ends body) ∙ drop-append-seam head body) i;
-    answer = generatorAnswer;
+module _ (s : List ℕ) (before own after : Head) (judged : Judged)
+    (b : NeighbourRead s before) (o : OwnRead (restAfter 1 s) own) (a : NeighbourRead (restAfter 2 s) after)
+    (j : JudgedAs (headersFault s (restAfter 1 s) (restAfter 2 s)) judged) where
+  abbrev days : (MarkedDay → MarkedDay) → ℕ
+  days f = word (f (own .day) .hours) (excluded (f (before .day)) (f (own .day)) (f (after .day)))
+
+  says-days : days within ≡ word (hoursOf (restAfter 1 s)) (excluded (neighbourOf s) (daySaid (restAfter 1 s)) (neighbourOf (restAfter 2 s)))
+  says-days =
+      (λ i. word (within (o .day i) .hours) (excluded (within (b .day i)) (within (o .day i)) (within (a .day i))))
+      ∙ word-of-day (neighbourOf s) (daySaid (restAfter 1 s)) (neighbourOf (restAfter 2 s))
+      (neighbour-few s) (hours-few (countOf (restAfter 1 s))) (neighbour-few (restAfter 2 s))
+
+  pub front-read : (word next : ℕ) → word ≡ days within → drop next s ≡ restAfter 3 s → next ≤ length s
+      → FrontRead s (frontOf s) (record { found = judged .found; header = judged .header; hours = own .day .hours; excluded = word; next = next })
+  front-read word next says body inside = record {
+    fault = j .fault;
+    header = j .header;
+    hours = ap (λ (d : MarkedDay). d .hours) (o .day);
+    some = hours-some (countOf (restAfter 1 s));
+    few = hours-few (countOf (restAfter 1 s));
+    excluded = says ∙ says-days;
+    inside = inside;
+    body = body;
   }
-    where
-      clears : frontOf (head ++ body) .fault ≡ clear
-      clears = fault-append head read ends body
 
-      count : hoursOf (head ++ body) ≡ hoursOf head
-      count = hours-append head read ends body
+-- ---- two inputs whose three headers begin with the same byte and say the same
+
+pub record SameHead (s t : List ℕ) : Type 0 where
+  pub first : byteAt s 0 ≡ byteAt t 0
+  pub said : SameHeader s t
+
+line-same : {s t : List ℕ} → SameHeader s t → unitLine s ≡ unitLine t
+line-same {s} {t} o =
+    ap suc
+    (sym (unit-line (isForm2 s) (isCount (countOf s)))
+    ∙ ap (λ (two : Bool). lineOf UNIT-LINE (layoutBy (formBy two) true)) (o .two)
+    ∙ unit-line (isForm2 t) (isCount (countOf t)))
+
+pub day-same : {s t : List ℕ} → SameHeader s t → daySaid s ≡ daySaid t
+day-same o = λ i. record { hours = o .hours i; marks = o .marks i }
+
+module _ {s t : List ℕ} (o : SameHead s t) where
+  lacking-same : isLacking s ≡ isLacking t
+  lacking-same = ap (λ (b : ℕ). eqb b LF) (o .first)
+
+  fault-same : neighbourFault s ≡ neighbourFault t
+  fault-same = λ i. if lacking-same i then clear else o .said .fault i
+
+  pub neighbour-same : neighbourOf s ≡ neighbourOf t
+  neighbour-same = λ i. if lacking-same i then noDay else day-same (o .said) i
+
+  unit-same : {own other : List ℕ} → SameHeader own other → unitFault s own ≡ unitFault t other
+  unit-same p = λ i. if lacking-same i then clear else unless (eqZ (o .said .unit i) (p .unit i)) RANGE (line-same (o .said) i)
+
+pub headers-same : {s t own other after later : List ℕ} → SameHead s t → SameHead own other → SameHead after later
+    → headersFault s own after ≡ headersFault t other later
+headers-same b o a =
+    let first = fault-same b in
+    let second = o .said .fault in
+    let third = fault-same a in
+    let unit-before = unit-same b (o .said) in
+    let unit-after = unit-same a (o .said) in
+    λ i. firstRefused (inHeader 0 (first i) ∷ inHeader 1 (second i) ∷ inHeader 2 (third i) ∷ inHeader 0 (unit-before i) ∷ inHeader 2 (unit-after i) ∷ [])
+
+pub same-front : (s t : List ℕ) → ((k : ℕ) → k < 3 → SameHead (restAfter k s) (restAfter k t)) → SameFront (frontOf s) (frontOf t)
+unfolding restAfter
+same-front s t heads =
+    let b = heads 0 (omega arith) in
+    let o = heads 1 (omega arith) in
+    let a = heads 2 (omega arith) in
+    let judged = headers-same b o a in
+    record {
+      fault = λ i. judged i .fault;
+      header = λ i. judged i .header;
+      hours = o .said .hours;
+      isExcluded = λ k u i. excluded (neighbour-same b i) (day-same (o .said) i) (neighbour-same a i) k;
+    }
 
 -- ---- a block and a header of which enough is kept
 
@@ -91,23 +136,56 @@ block-kept got text (long e) = sym (first-bytes-decide got) ∙ ap blockOf e ∙
 abbrev answered : Block → Bool → Expected → Reply
 answered b isExcluded expected = replyTo b isExcluded expected 30
 
-same-front : {s t : List ℕ} → SameHeader s t → SameFront (frontOf s) (frontOf t)
-same-front o = record { fault = o .fault; hours = o .hours; isExcluded = λ k u i. excluded (o .hours i) (o .marks i) k }
+-- the first byte of a text is its first piece's
+piece-byte : (s : List ℕ) → byteAt s 0 ≡ byteAt (firstPiece s) 0
+piece-byte s = go (piece-shares s)
+  where
+    go : {t : List ℕ} → Shares s t → byteAt s 0 ≡ byteAt t 0
+    go (whole e) = ap (λ (l : List ℕ). byteAt l 0) e
+    go (empty f g) = f ∙ sym g
+    go (lines m line next) = line .same 0 (omega arith)
 
-header-kept : (got s : List ℕ) → FirstKept got (squeezed s) → SameHeader got s
-header-kept got s (short e) = piece-header got s e
-header-kept got s (long e) = bytes-header got s e
+pub same-piece : (s t : List ℕ) → firstPiece s ≡ firstPiece t → SameHead s t
+same-piece s t e = record { first = piece-byte s ∙ ap (λ (l : List ℕ). byteAt l 0) e ∙ sym (piece-byte t); said = same-first s t e }
+
+module _ (others : ℕ) (got s : List ℕ) where
+  head-kept : FirstKept got (squeezed (suc others) s) → SameHead got s
+  head-kept (short e) = record {
+    first = piece-byte got ∙ ap (λ (l : List ℕ). byteAt l 0) e ∙ sym (piece-byte (squeezed (suc others) s)) ∙ first-byte-stands (suc others) s;
+    said = piece-header others got s e;
+  }
+  head-kept (long e) = record {
+    first =
+        sym (getD-take PIECE got 0 256 (omega arith))
+        ∙ ap (λ (l : List ℕ). byteAt l 0) e
+        ∙ getD-take PIECE (squeezed (suc others) s) 0 256 (omega arith)
+        ∙ first-byte-stands (suc others) s;
+    said = bytes-header others got s e;
+  }
+
+-- header k of the three, behind which `others` more are squeezed
+heads-kept : (got s : List ℕ) (k others : ℕ) → k + suc others ≡ 3 → FirstKept (restAfter k got) (restAfter k (squeezed 3 s)) → SameHead (restAfter k got) (restAfter k s)
+heads-kept got s k others e f =
+    head-kept others (restAfter k got) (restAfter k s)
+    (subst (FirstKept (restAfter k got)) (ap (λ (n : ℕ). restAfter k (squeezed n s)) (sym e) ∙ rest-squeezed k (suc others) s) f)
 
 pub generator-decides : (s : List ℕ) → generatorAnswer (firstPiece s) ≡ generatorAnswer s
 generator-decides s = ap answered (piece-decides s)
 
-pub sheet-laws : FrontLaws frontOf generatorAnswer
+-- its front is three pieces
+pub sheet-laws : FrontLaws 3 frontOf generatorAnswer
 sheet-laws = record {
   kind = λ s. refl;
-  some = λ s. hours-some (countOf s);
-  few = λ s. hours-few (countOf s);
-  blocks = clear-behind;
-  by-first = λ s t e. same-front (same-first s t e);
-  by-kept = λ got s e. same-front (header-kept got s e);
+  some = λ s. hours-some (countOf (restAfter 1 s));
+  few = λ s. hours-few (countOf (restAfter 1 s));
+  blocks = λ s e. refl;
+  by-first = λ s t e. same-front s t (λ k u. same-piece (restAfter k s) (restAfter k t) (e k u));
+  by-kept = λ got s e. same-front got s (λ k u. go got s k u (e k u));
   by-block = λ got text e. ap answered (block-kept got text e);
 }
+  where
+    go : (got s : List ℕ) (k : ℕ) → k < 3 → FirstKept (restAfter k got) (restAfter k (squeezed 3 s)) → SameHead (restAfter k got) (restAfter k s)
+    go got s zero u = heads-kept got s 0 2 refl
+    go got s (suc zero) u = heads-kept got s 1 1 refl
+    go got s (suc (suc zero)) u = heads-kept got s 2 0 refl
+    go got s (suc (suc (suc k))) u = absurd (omega arith)

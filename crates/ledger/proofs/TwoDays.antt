@@ -30,5 +30,5 @@ module _ (answer : BlockAnswer) (decides : (s : List ℕ) → answer (firstPiece
 
   pub hours-settled : ((k : ℕ) (u : k < f .hours) → replyIn k u (f .body) ≡ replyIn k u (g .body)) → SettledAlike f g
   hours-settled same =
-      settled-alike f g (d .one-read ∙ sym (d .other-read)) (d .hours)
+      settled-alike f g (d .one-read) (d .other-read) (d .hours)
       (λ k u. one-hour k u ∙ same k u ∙ sym (other-hour k u)) (ap isSome (d .surplus))

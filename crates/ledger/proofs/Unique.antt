@@ -29,14 +29,15 @@ total-back Withheld = refl
 total-one : (t u : Total) → toldTotal t ≡ toldTotal u → t ≡ u
 total-one t u e = sym (total-back t) ∙ ap totalTold e ∙ total-back u
 
-abbrev day : Found → (count : ℕ) → List HourAnswer → Total → Day
-day header count hours t = record { header = header; count = count; hours = hours; total = t }
+abbrev day : Found → (header count : ℕ) → List HourAnswer → Total → Day
+day found header count hours t = record { found = found; header = header; count = count; hours = hours; total = t }
 
 -- two days of one front
 one-day : (f : Front) (r s : Day) → DayOf f r → DayOf f s → r ≡ s
 one-day f r s p q = λ i.
     day
-    (one-finding (r .header) (s .header) _ (p .header) (q .header) i)
+    (one-finding (r .found) (s .found) _ (p .found) (q .found) i)
+    ((p .header ∙ sym (q .header)) i)
     ((p .count ∙ sym (q .count)) i)
     (answers-one (r .hours) (s .hours) (p .hours ∙ sym (q .hours)) i)
     (total-one (r .total) (s .total) (p .total ∙ sym (q .total)) i)
@@ -44,11 +45,11 @@ one-day f r s p q = λ i.
 pub one-settle-day : OneReply settle-day.Post
 one-settle-day κ a r s u v p q =
     one-day (frontOf (a .0 .now)) r s
-    (record { header = p .0; count = p .1 .0; hours = p .1 .1 .0; total = p .1 .1 .1 })
-    (record { header = q .0; count = q .1 .0; hours = q .1 .1 .0; total = q .1 .1 .1 })
+    (record { found = p .0; header = p .1 .0; count = p .1 .1 .0; hours = p .1 .1 .1 .0; total = p .1 .1 .1 .1 })
+    (record { found = q .0; header = q .1 .0; count = q .1 .1 .0; hours = q .1 .1 .1 .0; total = q .1 .1 .1 .1 })
 
 pub one-settle-icl-day : OneReply settle-icl-day.Post
 one-settle-icl-day κ a r s u v p q =
     one-day (iclFrontOf (a .0 .now)) r s
-    (record { header = p .0; count = p .1 .0; hours = p .1 .1 .0; total = p .1 .1 .1 })
-    (record { header = q .0; count = q .1 .0; hours = q .1 .1 .0; total = q .1 .1 .1 })
+    (record { found = p .0; header = p .1 .0; count = p .1 .1 .0; hours = p .1 .1 .1 .0; total = p .1 .1 .1 .1 })
+    (record { found = q .0; header = q .1 .0; count = q .1 .1 .0; hours = q .1 .1 .1 .0; total = q .1 .1 .1 .1 })

@@ -3,7 +3,6 @@ use mathlib.Core.Bool.{Bool}
 use mathlib.Core.List.{List}
 use Prim.Native.Nat.{ℕ}
 use lib.IntN.{pos}
-use lib.ListN.{drop}
 use Rattle.exact.specs.Whole.{upTo}
 use Rattle.tariff.specs.declared.Expected.{Expected}
 use Rattle.tariff.specs.declared.Expected.the-variants.{Says}
@@ -13,7 +12,8 @@ use Rattle.tariff.specs.Eligible.{excluded}
 use Rattle.lines.specs.Pieces.{restAfter, isSome}
 use Rattle.blocks.specs.Block.{blockOf}
 use Rattle.sheet.specs.Settle.{replyTo}
-use Rattle.header.specs.Header.{hoursOf, headerFault, marksUnder, nextUnder}
+use Rattle.header.specs.Header.{hoursOf}
+use Rattle.ledger.specs.Headers.{daySaid, neighbourOf, headersFault}
 
 -- ---- how a block is answered: by its text, whether its hour is excluded, and the hour that it has to say
 
@@ -24,24 +24,31 @@ BlockAnswer = (block : List ℕ) → (isExcluded : Bool) → Expected → Reply
 abbrev pub generatorAnswer : BlockAnswer
 generatorAnswer s isExcluded expected = replyTo (blockOf s) isExcluded expected 30
 
--- ---- the front: a fault or none, how many hours the day has, which of them are excluded, the text of the blocks, and how each is answered
+-- ---- the front: a fault or none, which header has it, how many hours the day has, which of them are excluded, the text of the blocks, and how each is
+-- answered
 
 pub record Front : Type 0 where
   pub fault : Verdict
+  pub header : ℕ
   pub hours : ℕ
   pub isExcluded : ℕ → Bool
   pub body : List ℕ
   pub answer : BlockAnswer
 
--- a sheet's front is its header
+-- the front of what `day` reads: the text is cut at its empty lines, its first three pieces are the headers, each read up to its own empty line, and behind
+-- them stand the blocks
 abbrev pub frontOf : List ℕ → Front
 frontOf s =
-    let v = headerFault s in
+    let before = s in
+    let own = restAfter 1 s in
+    let after = restAfter 2 s in
+    let judged = headersFault before own after in
     record {
-      fault = v;
-      hours = hoursOf s;
-      isExcluded = excluded (hoursOf s) (marksUnder v s);
-      body = drop (nextUnder v s) s;
+      fault = judged .fault;
+      header = judged .header;
+      hours = hoursOf own;
+      isExcluded = excluded (neighbourOf before) (daySaid own) (neighbourOf after);
+      body = restAfter 3 s;
       answer = generatorAnswer;
     }
 

@@ -7,7 +7,7 @@ use lib.IntN.{ℤ}
 use Rattle.tariff.specs.declared.Hour.{Hour}
 use Rattle.tariff.specs.declared.Expected.{Expected}
 use Rattle.tariff.specs.Curve.{Amount}
-use Rattle.tariff.specs.Reply.{clear}
+use Rattle.tariff.specs.Reply.{clear, fault}
 use Rattle.tariff.specs.Demand.{MustPrice, priceIn, Lawful}
 use Rattle.lines.specs.Pieces.{piece}
 use Rattle.curves.specs.Frame.{Framed, read}
@@ -15,8 +15,9 @@ use Rattle.blocks.specs.Block.{blockOf}
 use Rattle.sheet.specs.Apart.{CurvesApart}
 use Rattle.ledger.specs.Day.{BlockAnswer, generatorAnswer, Front, dayReply, surplus, dayTotal}
 
--- the same fault or none, the same answers and the same total
+-- the same fault of the same header or none, the same answers and the same total
 pub record SettledAlike (f g : Front) : Type 0 where
+  pub header : (number place : ℕ) → g .fault ≡ fault number place → f .header ≡ g .header
   pub fault : f .fault ≡ g .fault
   pub hours : f .hours ≡ g .hours
   pub answers : (k : ℕ) → k < f .hours → dayReply f k ≡ dayReply g k

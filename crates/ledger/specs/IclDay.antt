@@ -15,4 +15,4 @@ iclAnswer s isExcluded expected = iclReplyTo (iclBlockOf s) isExcluded expected 
 abbrev pub iclFrontOf : List ℕ → Front
 iclFrontOf s =
     let v = iclHeaderFault s in
-    record { fault = v; hours = iclHoursOf s; isExcluded = iclUnmarkedUnder v s; body = drop (iclNextUnder v s) s; answer = iclAnswer }
+    record { fault = v; header = 0; hours = iclHoursOf s; isExcluded = iclUnmarkedUnder v s; body = drop (iclNextUnder v s) s; answer = iclAnswer }

@@ -1,6 +1,7 @@
--- What the code hands on from a sheet's front to the walk over its blocks, and what the walk gives: an answer for each, by a word of
+-- What the code hands on from a day's front to the walk over its blocks, and what the walk gives: an answer for each, by a word of
 -- excluded hours, and their total. And what a refused front gives instead.
 use mathlib.Core.Path.{_≡_}
+use mathlib.Core.Bool.{false}
 use mathlib.Core.List.{List}
 use Prim.Native.Nat.{ℕ, _+_, _<_, _≤_}
 use lib.IntN.{ℤ}
@@ -17,18 +18,44 @@ use Rattle.tariff.specs.Eligible.{marked}
 use Rattle.tariff.specs.Total.{Sum, total, _plus_, toldTotal, toldAll}
 use Rattle.marks.specs.Word.{word}
 use Rattle.lines.specs.Line.{filled}
+use Rattle.header.specs.Header.{headerFault, unitOf, unitLine}
 use Rattle.ledger.specs.declared.Day.{Day}
 use Rattle.ledger.specs.declared.front.Front as code
+use Rattle.ledger.specs.declared.heads.Head.{Head}
+use Rattle.ledger.specs.declared.heads.Judged as code-judged
 use Rattle.ledger.specs.declared.hours.Settled.{Settled}
 use Rattle.ledger.specs.declared.hours.Kind.{Kind}
 use Rattle.ledger.specs.declared.hours.Kind.the-variants.{Generator, Icl}
+use Rattle.ledger.specs.Headers.{isLacking, daySaid, neighbourOf, neighbourFault, Judged}
 use Rattle.ledger.specs.Day.{BlockAnswer, generatorAnswer, Front, dayReply, dayTotal}
 use Rattle.ledger.specs.IclDay.{iclAnswer}
 
--- ---- the front of a sheet: its fault, how many hours it has, a bit for each that is excluded, and the place of the first block
+-- ---- one of the three headers: whether it is lacking, its fault, what it says of its day, and where it is read its unit and the line of that
+
+pub record OwnRead (s : List ℕ) (r : Head) : Type 0 where
+  pub lacking : r .lacking ≡ false
+  pub fault : shown (r .found) ≡ headerFault s
+  pub day : r .day ≡ daySaid s
+  pub unit : headerFault s ≡ clear → r .unit ≡ unitOf s
+  pub line : r .line ≡ unitLine s
+
+pub record NeighbourRead (s : List ℕ) (r : Head) : Type 0 where
+  pub lacking : r .lacking ≡ isLacking s
+  pub fault : shown (r .found) ≡ neighbourFault s
+  pub day : r .day ≡ neighbourOf s
+  pub unit : isLacking s ≡ false → headerFault s ≡ clear → r .unit ≡ unitOf s
+  pub line : isLacking s ≡ false → r .line ≡ unitLine s
+
+-- which of them refuses
+pub record JudgedAs (j : Judged) (r : code-judged.Judged) : Type 0 where
+  pub fault : shown (r .found) ≡ j .fault
+  pub header : r .header ≡ j .header
+
+-- ---- the front of a day: its fault and which header has it, how many hours it has, a bit for each that is excluded, and the place of the first block
 
 pub record FrontRead (s : List ℕ) (f : Front) (r : code.Front) : Type 0 where
   pub fault : shown (r .found) ≡ f .fault
+  pub header : r .header ≡ f .header
   pub hours : r .hours ≡ f .hours
   pub some : 0 < f .hours
   pub few : f .hours ≤ LONGEST-DAY
@@ -38,7 +65,7 @@ pub record FrontRead (s : List ℕ) (f : Front) (r : code.Front) : Type 0 where
 
 -- a day that is read, where bit k of a word says whether hour k is excluded
 abbrev pub wordFront : BlockAnswer → (word : ℕ) → List ℕ → (hours : ℕ) → Front
-wordFront answer word body hours = record { fault = clear; hours = hours; isExcluded = marked word; body = body; answer = answer }
+wordFront answer word body hours = record { fault = clear; header = 0; hours = hours; isExcluded = marked word; body = body; answer = answer }
 
 -- whose blocks they are
 abbrev pub answerOf : Kind → BlockAnswer
@@ -75,14 +102,15 @@ pub record SettledTo (f : Front) (r : Settled) : Type 0 where
 
 -- ---- a refused front refuses every hour
 
-abbrev pub refusedDay : Check → (count : ℕ) → Day
-refusedDay check count =
-    record { header = Fault check; count = count; hours = replicate LONGEST-DAY (record { answer = Refused check }); total = Withheld }
+abbrev pub refusedDay : Check → (header count : ℕ) → Day
+refusedDay check header count =
+    record { found = Fault check; header = header; count = count; hours = replicate LONGEST-DAY (record { answer = Refused check }); total = Withheld }
 
--- ---- the day of a front: its fault, its hours, their answers and the total
+-- ---- the day of a front: its fault and which header has it, its hours, their answers and the total
 
 pub record DayOf (f : Front) (r : Day) : Type 0 where
-  pub header : shown (r .header) ≡ f .fault
+  pub found : shown (r .found) ≡ f .fault
+  pub header : r .header ≡ f .header
   pub count : r .count ≡ f .hours
   pub hours : toldAll (r .hours) ≡ heldReplies f
   pub total : toldTotal (r .total) ≡ dayTotal f

@@ -12,6 +12,7 @@ pub mod Cut
 pub mod Behind
 pub mod First
 pub mod Appended
+pub mod Closed
 pub mod Squeezed
 pub mod Passed
 pub mod Pieces

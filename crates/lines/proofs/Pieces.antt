@@ -3,10 +3,11 @@ use mathlib.Core.Path.{_≡_, refl, sym, ap, _∙_}
 use mathlib.Core.Bool.{true, false}
 use mathlib.Core.List.{List}
 use Prim.Native.Nat.{ℕ, zero, suc, _+_, _-_, _≤_, _<_}
-use native.Mathlib.Nat.{zero-add}
+use native.Mathlib.Nat.{zero-add, add-zero, add-suc}
+use native.Mathlib.Numerals.{one-add}
 use native.Mathlib.Omega.{arith}
 use lib.ListN.{length, drop, take, length-drop, drop-of-length-le}
-use lib.Seq.{take-all, drop-cons, drop-length, getD-take}
+use lib.Seq.{take-all, drop-cons, drop-length, getD-take, getD-drop}
 use Rattle.text.specs.declared.Next.{Next}
 use Rattle.text.specs.declared.Next.the-variants.{At, Wrong}
 use Rattle.text.specs.Text.{byteAt}
@@ -39,12 +40,20 @@ module _ (s : List ℕ) (at : ℕ) where
   pub lent-to-the-end : take (length s - at) (drop at s) ≡ drop at s
   lent-to-the-end = take-all (length s - at) (drop at s) (omega (arith, length-drop at s))
 
--- ---- the pieces behind the first are those of the text from the second on
+-- the byte that a text begins with, from a place on
+pub first-of : (s : List ℕ) (at : ℕ) → byteAt (drop at s) 0 ≡ byteAt s at
+first-of s at = getD-drop at s 0 256 ∙ ap (byteAt s) (add-zero at)
+
+-- ---- the pieces behind the first ones are those of the text from there on
+
+pub rest-rest : (j k : ℕ) (s : List ℕ) → restAfter k (restAfter j s) ≡ restAfter (j + k) s
+unfolding restAfter
+rest-rest j zero s = rw (add-zero j)
+rest-rest j (suc k) s = rw (add-suc j k) (ap behind (rest-rest j k s))
 
 pub rest-behind : (k : ℕ) (s : List ℕ) → restAfter k (behind s) ≡ restAfter (suc k) s
 unfolding restAfter
-rest-behind zero s = refl
-rest-behind (suc k) s = ap behind (rest-behind k s)
+rest-behind k s = rest-rest 1 k s ∙ ap (λ (n : ℕ). restAfter n s) (one-add k)
 
 -- ---- a text and its first piece are the same, begin with an empty line both, or are the same up to a line's end and the empty line behind it
 

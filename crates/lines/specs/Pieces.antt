@@ -1,4 +1,5 @@
 -- A text in pieces, cut at its empty lines: what stands behind k of them, and piece k, which is empty where it is absent.
+use mathlib.Core.Path.{_≡_}
 use mathlib.Core.Bool.{Bool, true, false}
 use mathlib.Core.List.{List, [], _∷_}
 use Prim.Native.Nat.{ℕ, zero, suc}
@@ -30,6 +31,10 @@ firstPiece s = upToPlace (emptyIn true s 0) s
 
 abbrev pub piece : ℕ → List ℕ → List ℕ
 piece k s = firstPiece (restAfter k s)
+
+-- a text that is one piece: its first empty line ends it
+abbrev pub OnePiece : List ℕ → Type 0
+OnePiece s = emptyIn true s 0 ≡ At (length s)
 
 -- of a piece so many bytes decide: a header, an hour block and an import's block are judged alike whatever follows them
 abbrev pub PIECE : ℕ

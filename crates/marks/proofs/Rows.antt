@@ -1,19 +1,19 @@
 -- A row of marks and its word: each says what the other is.
 use mathlib.Core.Path.{_≡_, refl, sym, _∙_, ap, subst}
-use mathlib.Core.Bool.{Bool, true, false}
+use mathlib.Core.Bool.{Bool, true, false, _||_}
 use Prim.Native.Nat.{ℕ, zero, suc, _+_, _-_, _*_, _/_, _%_, _^_, _<_}
-use native.Mathlib.Nat.{mod-one, mod-lt, pow-suc, one-mul}
+use native.Mathlib.Nat.{mod-one, mod-lt, mod-eq-of-lt, pow-suc, one-mul}
 use native.Mathlib.Numerals.{add-one, one-add}
 use native.Mathlib.Decide.{decLt}
 use native.Mathlib.Omega.{arith}
 use lib.Dec.{eqb}
-use lib.Bits.{bitAnd, bitOr, and-mask, or-shifted-r}
+use lib.Bits.{bitAnd, bitOr, and-mask, or-mod, or-shifted-r}
 use lib.Pow.{shl-exact, mod-pow-add, high, low, pow-pos}
 use Rattle.exact.specs.Choice.{if_then_else_}
 use Rattle.exact.proofs.Parts.{by-test}
 use Rattle.tariff.specs.Eligible.{marked}
 use Rattle.marks.specs.Word.{word}
-use Rattle.marks.proofs.Marked.{marked-cut}
+use Rattle.marks.proofs.Marked.{marked-cut, or-marks}
 
 -- ---- one hour more
 
@@ -92,9 +92,23 @@ unfolding word
 word-all zero = refl
 word-all (suc n) = omega (arith, word-all n, pow-suc 2 n, pow-pos n)
 
+-- a word masked to a day is cut to it
+pub cut-by : (w day n : ℕ) → day ≡ 2 ^ n - 1 → bitAnd w day ≡ w % 2 ^ n
+cut-by w day n mask = ap (bitAnd w) mask ∙ and-mask w n
+
 -- a masked word is the row that its bits say below the mask
 pub masked : (w n : ℕ) (f : ℕ → Bool) → ((h : ℕ) → h < n → marked w h ≡ f h) → bitAnd w (2 ^ n - 1) ≡ word n f
 masked w n f e = and-mask w n ∙ sym (word-of-marks w n) ∙ word-same (marked w) f n e
+
+-- two rows joined
+pub word-or : (n : ℕ) (f g : ℕ → Bool) → bitOr (word n f) (word n g) ≡ word n (λ h. f h || g h)
+word-or n f g =
+    sym (or-mod (word n f) (word n g) n ∙ (λ i. bitOr (whole f i) (whole g i)))
+    ∙ sym (word-of-marks (bitOr (word n f) (word n g)) n)
+    ∙ word-same _ _ n (λ h u. or-marks (word n f) (word n g) h (marked-word f n h u) (marked-word g n h u))
+  where
+    whole : (f : ℕ → Bool) → word n f % 2 ^ n ≡ word n f
+    whole f = mod-eq-of-lt (word-small f n)
 
 -- ---- a row filled hour by hour
 

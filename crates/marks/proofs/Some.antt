@@ -1,4 +1,4 @@
--- A test that holds at some number below n: how it is shown, what follows of it, and when two such tests agree.
+-- A test that holds at some number below n: how it is shown, and what follows of it.
 use mathlib.Core.Path.{_≡_, refl, sym, subst}
 use mathlib.Core.Bool.{Bool, true, false, _||_, false≢true}
 use Prim.Native.Nat.{ℕ, zero, suc, _<_}
@@ -39,8 +39,3 @@ module _ (f : ℕ → Bool) where
   some-where zero e use-it = absurd (false≢true e)
   some-where (suc n) e use-it =
       or-cases (someTo f n) (f n) e (λ d. some-where n d (λ j u. use-it j (omega arith))) (λ d. use-it n (omega arith) d)
-
-pub some-same : (f g : ℕ → Bool) (n : ℕ) → ((j : ℕ) → f j ≡ g j) → someTo f n ≡ someTo g n
-unfolding someTo
-some-same f g zero e = refl
-some-same f g (suc n) e = λ i. some-same f g n e i || e n i

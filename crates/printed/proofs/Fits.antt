@@ -28,7 +28,7 @@ use Rattle.ledger.proofs.DayDemands.{no-day-is-longer}
 use Rattle.imports.specs.Import.{importReply}
 use Rattle.page.specs.Numerals.{count, counted, signed}
 use Rattle.answers.specs.Answers.{refusedLine, payLine, intervalLine, numbered, answerText, hourLine, totalLine, dayLines, refusedIn, importLine}
-use Rattle.printed.specs.Printed.{LONGEST, contributionsOf, hourText, dayPage, dayText, lineText, importText}
+use Rattle.printed.specs.Printed.{LONGEST, contributionsOf, hourText, dayPage, headerEnd, dayText, plainEnd, lineText, importText}
 
 natural-short : (left n : ℕ) → length (natural left n) ≤ left
 unfolding natural
@@ -113,24 +113,32 @@ hour-fits s = go (blockOf s)
     go (broken line) = let r = refused-short 1 line in omega arith
     go (read h) = settled h (reply h false Any 30) refl
 
-page-fits : (f : Front) → f .hours ≤ LONGEST-DAY → length (dayPage f) ≤ LONGEST
-unfolding dayPage
-page-fits f h = go (f .fault)
-  where
-    go : (v : Verdict) → length (dayLines v (dayReplies f) (dayTotal f)) ≤ LONGEST
-    go clear =
-        let a = length-append (numbered hourLine 0 (dayReplies f)) (totalLine (dayTotal f)) in
-        let n = up-length (dayReply f) (f .hours) in
-        let l = numbered-short hourLine 79 hour-short 0 (dayReplies f) in
-        let t = total-short (dayTotal f) in
-        omega arith
-    go (fault number place) = let r = refused-short number place in omega arith
+module _ (ending : ℕ → List ℕ) (short : (header : ℕ) → length (ending header) ≤ 28) where
+  page-fits : (f : Front) → f .hours ≤ LONGEST-DAY → length (dayPage ending f) ≤ LONGEST
+  unfolding dayPage
+  page-fits f h = go (f .fault)
+    where
+      go : (v : Verdict) → length (dayLines (ending (f .header)) v (dayReplies f) (dayTotal f)) ≤ LONGEST
+      go clear =
+          let a = length-append (numbered hourLine 0 (dayReplies f)) (totalLine (dayTotal f)) in
+          let n = up-length (dayReply f) (f .hours) in
+          let l = numbered-short hourLine 79 hour-short 0 (dayReplies f) in
+          let t = total-short (dayTotal f) in
+          omega arith
+      go (fault number place) =
+          let n = count-short number in
+          let p = count-short place in
+          let e = short (f .header) in
+          simp length-append (omega arith)
+
+header-short : (header : ℕ) → length (headerEnd header) ≤ 28
+header-short header = let n = count-short header in simp length-append (omega arith)
 
 pub day-fits : (s : List ℕ) → length (dayText s) ≤ LONGEST
-day-fits s = page-fits (frontOf s) (no-day-is-longer s)
+day-fits s = page-fits headerEnd header-short (frontOf s) (no-day-is-longer s)
 
 pub line-fits : (s : List ℕ) → length (lineText s) ≤ LONGEST
-line-fits s = page-fits (iclFrontOf s) (no-icl-day-is-longer s)
+line-fits s = page-fits plainEnd (λ header. omega arith) (iclFrontOf s) (no-icl-day-is-longer s)
 
 pub import-fits : (s : List ℕ) → length (importText s) ≤ LONGEST
 unfolding importText

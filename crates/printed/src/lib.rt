@@ -9,6 +9,7 @@ ghost use Rattle.tariff.specs.Reply.{told};
 ghost use Rattle.page.specs.Page.{written};
 ghost use Rattle.answers.specs.Answers.{answerText};
 ghost use Rattle.printed.specs.Printed.{hourText, dayText, lineText, importText};
+use answers::Ending;
 use tariff::Answer;
 use tariff::Expected;
 
@@ -36,17 +37,18 @@ pub fn hour_text(block: &[u8], page: &mut [u8]) -> usize
     answers::put_answer(page, 0, said.hour, &grains, said.n, answer)
 }
 
-// What `day` prints of a sheet.
-pub fn day_text(sheet: &[u8], page: &mut [u8]) -> usize
-    ensures text { λ r. ⌜ now (page .exit) ≡ written (now (page .entry)) 0 (dayText (now (sheet .entry))) ⌝ }
-    ensures count { λ r. ⌜ r ≡ min (length (dayText (now (sheet .entry)))) (length (now (page .entry))) ⌝ }
+// What `day` prints of a sheet between its neighbours' headers.
+pub fn day_text(text: &[u8], page: &mut [u8]) -> usize
+    ensures text { λ r. ⌜ now (page .exit) ≡ written (now (page .entry)) 0 (dayText (now (text .entry))) ⌝ }
+    ensures count { λ r. ⌜ r ≡ min (length (dayText (now (text .entry)))) (length (now (page .entry))) ⌝ }
     ensures within { λ r. ⌜ Counts r (now (page .exit)) ⌝ }
 {
-    let day = ledger::settle_day(sheet);
-    let header = day.header;
+    let day = ledger::settle_day(text);
+    let found = day.found;
     let hours = day.hours;
     let total = day.total;
-    answers::put_day(page, 0, header, hours, day.count, total)
+    let ending = Ending::Header(day.header);
+    answers::put_day(page, 0, found, ending, hours, day.count, total)
 }
 
 // What `line` prints of the day of an internal controllable line.
@@ -56,10 +58,10 @@ pub fn line_text(text: &[u8], page: &mut [u8]) -> usize
     ensures within { λ r. ⌜ Counts r (now (page .exit)) ⌝ }
 {
     let day = ledger::settle_icl_day(text);
-    let header = day.header;
+    let found = day.found;
     let hours = day.hours;
     let total = day.total;
-    answers::put_day(page, 0, header, hours, day.count, total)
+    answers::put_day(page, 0, found, Ending::Plain, hours, day.count, total)
 }
 
 // What `import` prints of a text.

@@ -8,7 +8,7 @@ use native.Mathlib.Omega.{arith}
 use borrow.Author.Tests.{ltb-true, leb-true}
 use lib.Dec.{eqb, ltb, lit<}
 use lib.IntN.{ℤ, pos, negsuc}
-use lib.ListN.{length}
+use lib.ListN.{length, drop}
 use lib.Signed.{leZ}
 use Rattle.exact.specs.Choice.{if_then_else_}
 use Rattle.exact.specs.Whole.{over, eqZ, upTo}
@@ -27,6 +27,7 @@ use Rattle.text.specs.Decimal.{number}
 use Rattle.text.specs.declared.Next.{Next}
 use Rattle.text.specs.declared.Next.the-variants.{At, Wrong}
 use Rattle.keys.specs.Keys.{FORM-LINE, HOURS-LINE, UNIT-LINE, RTC-LINE, CAT-LINE, keyOf}
+use Rattle.lines.specs.Cut.{behind}
 use Rattle.lines.specs.Line.{andThen}
 use Rattle.lines.specs.Print.{fields}
 use Rattle.lines.proofs.Along.{never-at}
@@ -36,12 +37,12 @@ use Rattle.marks.proofs.Rows.{marked-word}
 use Rattle.header.specs.declared.layout.Line.{Line}
 use Rattle.header.specs.declared.layout.Line.the-variants.{Number, Row, Run, Close}
 use Rattle.header.specs.Layout.{lineIn, digitsAt, rowAt, saidAt, headerLine, linePlace, numberFrom, digitIn, digitFrom, lineInRange, layoutForm, layoutRange, lineOf, numberOn, digitOn}
-use Rattle.header.specs.Header.{MARKS, unitAndMarks, form1, form2, layoutBy, isForm2, formBy, formOf, countOf, layoutOf, hoursOf, headerFault, unitOf, rowWord, marksBy, marksOf}
+use Rattle.header.specs.Header.{MARKS, unitAndMarks, form1, form2, layoutBy, isForm2, formBy, formOf, countOf, layoutOf, hoursOf, headerFault, unitOf, rowWord, marksBy, marksOf, nextUnder}
 use Rattle.header.proofs.HeaderCounts.{a-header-that-is-read-has-a-count}
 use Rattle.header.proofs.Forms.{one-number, UnitBehind, unit-behind}
 use Rattle.header.proofs.HeaderLines.{none-refused, isInRange, startOf}
 use Rattle.header.proofs.HeaderEnds.{form-start, line-read, clear-next}
-use Rattle.ledger.specs.Day.{frontOf}
+use Rattle.header.proofs.HeaderBehind.{clear-behind}
 use Rattle.spelling.specs.Spelt.{Spelt}
 use Rattle.spelling.specs.Value.{valueText}
 use Rattle.spelling.specs.Header.{saidText, layoutText, row, category, mark, unitAndMarksText, headerText}
@@ -231,5 +232,8 @@ module _ (s : List ℕ) (e : headerFault s ≡ clear) where
       (subst (λ (l : List Line). layoutRange l (hoursOf s) s ≡ clear) judged (checks .1))
       (λ two. hours-said s (hoursOf s) counted two ∙ ap (λ (t : Bool). numberOn (layoutBy (formBy t) true) (hoursOf s) HOURS-LINE s) (sym two)))
 
-  pub header-text : s ≡ headerText (isForm2 s) (hoursOf s) (unitOf s) (marksOf s) ++ frontOf s .body
-  header-text = rw (clear-next s e) (spelt .bytes)
+  pub header-text : s ≡ headerText (isForm2 s) (hoursOf s) (unitOf s) (marksOf s) ++ behind s
+  header-text =
+      let text = headerText (isForm2 s) (hoursOf s) (unitOf s) (marksOf s) in
+      let next : s ≡ text ++ drop (nextUnder (headerFault s) s) s = rw (clear-next s e) (spelt .bytes) in
+      next ∙ ap (λ (l : List ℕ). text ++ l) (clear-behind s e)

@@ -10,10 +10,10 @@ use Rattle.tariff.specs.declared.Expected.{Expected}
 use Rattle.tariff.specs.declared.ImportHour.{ImportHour}
 use Rattle.tariff.specs.Reply.{clear}
 use Rattle.tariff.specs.Hour.{form, range}
+use Rattle.lines.specs.Cut.{behind}
 use Rattle.blocks.specs.Block.{blockOf, read}
 use Rattle.sheet.specs.Print.{textOf, Plain}
 use Rattle.header.specs.Header.{isForm2, hoursOf, headerFault, unitOf, marksOf}
-use Rattle.ledger.specs.Day.{frontOf}
 use Rattle.imports.specs.Import as import
 use Rattle.imports.specs.Import.{saysHours, nameIn, ctsIn, countIn, headFault, importBody, importBlockAt}
 use Rattle.spelling.specs.Spelt.{Bytes, IsText}
@@ -40,11 +40,12 @@ pub a-text-is-read-to-a-record-exactly-when-it-is-its-text :
     → (blockOf s ≡ read h) ↔ IsText s (textOf h)
 a-text-is-read-to-a-record-exactly-when-it-is-its-text s h expected b f r p = (block-text s h b, text-back s h expected f r p)
 
--- A sheet whose header is not refused begins with the printed header of its form, its count, its unit and its marks. Behind it stand the blocks.
+-- A text whose header is not refused begins with the printed header of its form, its count, its unit and its marks, which its first empty line
+-- closes. Behind that stand the blocks, or the next day's header.
 pub a-header-that-is-read-is-its-text :
     (s : List ℕ)
     → headerFault s ≡ clear
-    → s ≡ headerText (isForm2 s) (hoursOf s) (unitOf s) (marksOf s) ++ frontOf s .body
+    → s ≡ headerText (isForm2 s) (hoursOf s) (unitOf s) (marksOf s) ++ behind s
 a-header-that-is-read-is-its-text = header-text
 
 -- An import whose first two lines are not refused begins with them as they are printed of its name, its mark and, where it says it, its count

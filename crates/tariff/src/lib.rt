@@ -99,6 +99,12 @@ pub struct Marks {
     pub x6: u32,
 }
 
+// How many hours a day has, and its marks.
+pub struct MarkedDay {
+    pub hours: usize,
+    pub marks: Marks,
+}
+
 // The hour that a block has to say: any, or its place in a day, and how many hours that day has.
 pub enum Expected {
     Any,

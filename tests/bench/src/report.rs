@@ -33,7 +33,7 @@ const HEAD: &str = "\
 `sh tests/bench/run` measures and writes this page. Ratios first: the absolute figures are this machine's.
 
 The sheets are days of a plant, every hour of 30 intervals with two curves of 12 steps, all paid; of form 1, and where 25 hours
-are named of form 2, with the same 24 hours and one more. Those of `line` are days of an internal controllable line: 24 hours with
+are named of form 2, with the same 24 hours and one more; each between the headers of two days of form 1. Those of `line` are days of an internal controllable line: 24 hours with
 as many intervals and steps, all marked and each paid more than 0. Everything goes over the same bytes in the same run, built for
 release and warmed, in turn and in several rounds; a figure is their median. The second program is the independent one of tests/second,
 `wc -l` a yardstick that only counts lines. No time is judged anywhere.

@@ -13,7 +13,7 @@ use second::curve::MOST_STEPS;
 use second::day::HOURS;
 use second::hour::judge_record;
 use second::record::{Record, MOST_INTERVALS};
-use second::{Ask, Header, LineHead, LineRecord, Run, Way};
+use second::{Ask, Header, Headers, LineHead, LineRecord, Run, Way};
 
 /// Hours of the longest day.
 pub const LONGEST: usize = HOURS + 1;
@@ -23,13 +23,13 @@ const SEED: u64 = 1;
 
 /// Sheets and their blocks, as texts.
 pub struct Sheets {
-    /// The day sheets.
+    /// The days, each between the headers of two usual ones.
     pub days: Vec<Vec<u8>>,
-    /// Sheets of the longest day, each with an hour more than a day sheet.
+    /// The longest days, each with an hour more than such a day.
     pub long_days: Vec<Vec<u8>>,
     /// The days of a controllable line, every hour marked.
     pub lines: Vec<Vec<u8>>,
-    /// Every hour block of the day sheets, with its closing empty line.
+    /// Every hour block of the days, with its closing empty line.
     pub blocks: Vec<Vec<u8>>,
 }
 
@@ -58,13 +58,12 @@ impl Sheets {
         for day in 0..count {
             let hours = (0..HOURS).map(|hour| block(day * HOURS + hour, hour));
             let mut blocks: Vec<Vec<u8>> = hours.collect();
-            let header = Header::default().to_text();
-            sheets.days.push(sheet(header, &blocks));
+            sheets.days.push(sheet(between(Header::default()), &blocks));
             sheets.blocks.extend_from_slice(&blocks);
-            // The one more comes behind all blocks of the day sheets.
+            // The one more comes behind all blocks of the days.
             blocks.push(block(count * HOURS + day, HOURS));
-            let header = Header::counted(LONGEST).to_text();
-            sheets.long_days.push(sheet(header, &blocks));
+            let long_day = Header::counted(LONGEST);
+            sheets.long_days.push(sheet(between(long_day), &blocks));
         }
         sheets
     }
@@ -100,9 +99,20 @@ impl Sheets {
     }
 }
 
-/// A header with the blocks below it.
-fn sheet(header: String, blocks: &[Vec<u8>]) -> Vec<u8> {
-    [header.into_bytes(), blocks.concat()].concat()
+/// What stands in front of a day's blocks, with its blocks below it.
+fn sheet(front: String, blocks: &[Vec<u8>]) -> Vec<u8> {
+    [front.into_bytes(), blocks.concat()].concat()
+}
+
+/// The three headers of a day between two usual ones.
+fn between(own: Header) -> String {
+    let usual = || Some(Header::default());
+    let headers = Headers {
+        before: usual(),
+        own,
+        after: usual(),
+    };
+    headers.to_text()
 }
 
 /// So many days of a controllable line.
@@ -163,12 +173,12 @@ mod tests {
         (hours.collect(), total)
     }
 
-    /// Whether so many hours, each as long as can be, stand below a header of so
+    /// Whether so many hours, each as long as can be, stand below headers of so
     /// many lines.
-    fn is_longest(text: &[u8], header: usize, hours: usize) -> bool {
+    fn is_longest(text: &[u8], above: usize, hours: usize) -> bool {
         let text = String::from_utf8_lossy(text);
         let steps = text.matches(&format!(" n={MOST_STEPS} ")).count();
-        let lines = header + hours * (3 + MOST_INTERVALS + 1);
+        let lines = above + hours * (3 + MOST_INTERVALS + 1);
         (steps, text.lines().count()) == (2 * hours, lines)
     }
 
@@ -176,11 +186,11 @@ mod tests {
     fn sheets_are_full_and_paid() {
         let sheets = Sheets::new(2);
         let (days, long_days) = (&sheets.days, &sheets.long_days);
-        for (texts, header, hours) in [(days, 11, HOURS), (long_days, 12, LONGEST)] {
+        for (texts, above, hours) in [(days, 33, HOURS), (long_days, 34, LONGEST)] {
             for text in texts {
                 let (paid, total) = pay(&day_text(text));
                 assert!(total && paid.len() == hours);
-                assert!(is_longest(text, header, hours));
+                assert!(is_longest(text, above, hours));
             }
         }
         for text in &sheets.lines {

@@ -6,7 +6,6 @@ use std::ops::RangeInclusive;
 use second::archive;
 use second::text::cut_block;
 
-use crate::day;
 use crate::events;
 use crate::headers;
 use crate::pieces::{self, Said};
@@ -43,18 +42,26 @@ const RECIPES: &[Recipe] = &[
     recipe("sheets", 6, stored::good),
     recipe("other bytes behind", 8, stored::other_behind),
     recipe("long sheets", 2, stored::long),
-    recipe("sheets of day", 6, |rng, turn| {
-        day::PROGRAM.case(rng.bits(), turn).text
+    recipe("sheets of day", 6, stored::of_day),
+    recipe("wrong headers", 6, |rng, turn| {
+        headers::stored(rng, turn, headers::wrong)
     }),
-    recipe("wrong headers", 6, headers::wrong),
     recipe("headers out of range", 5, stored::out_of_range),
-    recipe("headers that end", 3, headers::ends),
+    recipe("headers that end", 3, |rng, turn| {
+        headers::stored(rng, turn, headers::ends)
+    }),
     recipe("headers cut at a byte", 3, stored::cut),
-    recipe("other layouts", 2, headers::other_layout),
+    recipe("other layouts", 2, |rng, turn| {
+        headers::stored(rng, turn, headers::other_layout)
+    }),
     recipe("other forms", 3, stored::other_form),
     recipe("counts", 4, stored::counts),
-    recipe("rows of other lengths", 3, headers::other_rows),
-    recipe("long rows", 2, headers::long_rows),
+    recipe("rows of other lengths", 3, |rng, turn| {
+        headers::stored(rng, turn, headers::other_rows)
+    }),
+    recipe("long rows", 2, |rng, turn| {
+        headers::stored(rng, turn, headers::long_rows)
+    }),
     recipe("long lines", 2, stored::long_lines),
     recipe("damaged headers", 7, stored::damaged),
     recipe("noise", 2, |rng, _| {

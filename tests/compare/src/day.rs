@@ -1,19 +1,20 @@
-//! Day sheets: how they are made.
+//! Days between their neighbours: how they are made.
 
 use second::day::Marks;
 use second::record::Unit;
-use second::{day, Curve, DayAhead, Header, HourRecord, Interval};
+use second::{day, Curve, DayAhead, Header, Headers, HourRecord, Interval};
 
-use crate::bonds::{Bond, Pair};
+use crate::day_same;
 use crate::days;
 use crate::events;
 use crate::headers::{self, plain};
 use crate::hour;
 use crate::hours::{self, still};
-use crate::pieces::{self, any_said, count, each_hour, said};
+use crate::midnight;
+use crate::pieces::{self, any_said, count, each_hour, said, Said};
 use crate::plan::{recipe, Program, Recipe};
 use crate::random::Rng;
-use crate::same;
+use crate::three::{self, parts};
 use crate::written::Written;
 
 /// The program `day`.
@@ -23,38 +24,66 @@ pub const PROGRAM: Program = Program {
     answer: |text, run| Written::Answer(day::program(text, run)),
     wanted: events::of_day,
     outcome,
-    outcomes: || pieces::outcomes(&pieces::SAID, |said| says(plain(said).to_text().as_bytes())),
+    outcomes: || {
+        pieces::outcomes(&pieces::SAID, |said| {
+            says(Headers::alone(plain(said)).to_text().as_bytes())
+        })
+    },
     ends_at_empty_line: false,
-    pair: Some(pair),
+    pair: Some(day_same::pair),
     back: None,
 };
 
 const RECIPES: &[Recipe] = &[
     recipe("days", 4, good),
-    recipe("one mark", 6, one_mark),
+    recipe("one mark", 4, one_mark),
     recipe("one mark in the last hours", 3, late_mark),
     recipe("many marks", 3, many_marks),
-    recipe("wrong headers", 6, headers::wrong),
-    recipe("headers out of range", 3, headers::out_of_range),
-    recipe("headers that end", 3, headers::ends),
-    recipe("other layouts", 2, headers::other_layout),
-    recipe("wrong counts", 2, headers::wrong_count),
-    recipe("rows of other lengths", 3, headers::other_rows),
-    recipe("long rows", 2, headers::long_rows),
-    recipe("any blocks", 8, any_blocks),
+    recipe("marks at midnight", 8, midnight::one_mark),
+    recipe("rtc of neighbours", 4, midnight::rtc),
+    recipe("what stays in its day", 3, midnight::stays),
+    recipe("three days of marks", 3, midnight::many_marks),
+    recipe("hours spared at midnight", 2, midnight::spared),
+    recipe("wrong headers", 9, |rng, turn| {
+        three::made(rng, turn, headers::ALL_LINES, headers::wrong)
+    }),
+    recipe("headers out of range", 5, |rng, turn| {
+        three::made(rng, turn, headers::ALL_NOT_EMPTY, headers::out_of_range)
+    }),
+    recipe("headers that end", 4, |rng, turn| {
+        three::made(rng, turn, headers::ALL_LINES, headers::ends)
+    }),
+    recipe("other layouts", 2, |rng, turn| {
+        three::made(rng, turn, 6, headers::other_layout)
+    }),
+    recipe("wrong counts", 2, |rng, turn| {
+        three::made(rng, turn, 12, headers::wrong_count)
+    }),
+    recipe("rows of other lengths", 3, |rng, turn| {
+        three::made(rng, turn, 13, headers::other_rows)
+    }),
+    recipe("long rows", 2, |rng, turn| {
+        three::made(rng, turn, 6, headers::long_rows)
+    }),
+    recipe("two faults", 4, three::two_faults),
+    recipe("other units", 3, three::other_units),
+    recipe("lacking headers", 4, three::lacking),
+    recipe("headers cut at a byte", 2, three::cut),
+    recipe("damaged headers", 3, three::damaged),
+    recipe("any blocks", 10, any_blocks),
     recipe("blocks that end", 2, block_ends),
     recipe("blocks out of order", 3, out_of_order),
     recipe("blocks by the count", 3, by_count),
     recipe("surplus", 2, surplus),
     recipe("damage", 5, |rng, _| damaged(rng)),
     recipe("noise", 1, |rng, _| {
-        pieces::noise(rng, |rng| header(rng).to_text())
+        pieces::noise(rng, |rng| any_headers(rng).to_text())
     }),
 ];
 
-/// The form and the hours that a sheet says.
+/// The form and the hours that a day's own header says.
 fn says(text: &[u8]) -> String {
-    let text = String::from_utf8_lossy(text);
+    let text = String::from_utf8_lossy(parts(text)[1]);
     let lines = text.lines().take_while(|line| !line.starts_with("unit="));
     lines.collect::<Vec<_>>().join(" ")
 }
@@ -63,9 +92,16 @@ fn outcome(text: &[u8], answer: &str) -> Option<String> {
     days::outcome(&says(text), answer)
 }
 
-fn header(rng: &mut Rng) -> Header {
+/// A day of any form and count between any neighbours.
+pub fn any_headers(rng: &mut Rng) -> Headers {
     let said = any_said(rng);
-    headers::any(rng, said)
+    let own = headers::any(rng, said);
+    three::around(rng, own, three::any)
+}
+
+/// A day of a form and count between neighbours that exclude none of its hours.
+fn quiet(rng: &mut Rng, said: Said) -> Headers {
+    three::around(rng, plain(said), three::quiet)
 }
 
 fn set_marks(rng: &mut Rng, marks: &mut Marks, once_in: usize) {
@@ -76,7 +112,7 @@ fn set_marks(rng: &mut Rng, marks: &mut Marks, once_in: usize) {
 
 /// An hour of 100 kW day-ahead that is not run in its first quarter: it pays
 /// as many cents as its number, and one.
-fn paying(hour: usize) -> HourRecord {
+pub fn paying(hour: usize) -> HourRecord {
     let line = DayAhead {
         hour: hour as i64,
         en: 100,
@@ -104,30 +140,44 @@ fn short(rng: &mut Rng) -> HourRecord {
     hours::any_of(rng, count)
 }
 
-fn sheet(header: &Header, hours: &[HourRecord]) -> Vec<u8> {
-    pieces::text(&header.to_text(), hours)
+/// What `day` reads of these headers and hours.
+pub fn text(headers: &Headers, hours: &[HourRecord]) -> Vec<u8> {
+    pieces::text(&headers.to_text(), hours)
 }
 
-fn all_paying(hours: usize) -> Vec<HourRecord> {
+/// So many hours that pay by their number.
+pub fn all_paying(hours: usize) -> Vec<HourRecord> {
     each_hour(hours, paying)
 }
 
-/// The header over as many hours as it has, all paid but for its marks.
-pub fn paying_day(header: &Header) -> Vec<u8> {
-    sheet(header, &all_paying(header.cat.len()))
+/// The blocks of so many hours, all paid but for the marks above them.
+pub fn paying_blocks(hours: usize) -> Vec<u8> {
+    pieces::text("", &all_paying(hours))
+}
+
+/// A stored sheet of this header and as many hours as it has.
+pub fn paying_sheet(header: &Header) -> Vec<u8> {
+    pieces::text(&header.to_text(), &all_paying(header.cat.len()))
+}
+
+/// The same for a day with its neighbours.
+pub fn paying_day(headers: &Headers) -> Vec<u8> {
+    text(headers, &all_paying(headers.own.cat.len()))
 }
 
 fn all_short(rng: &mut Rng, hours: usize) -> Vec<HourRecord> {
     each_hour(hours, |_| short(rng))
 }
 
-fn good(rng: &mut Rng, turn: usize) -> Vec<u8> {
-    let mut header = headers::any(rng, said(turn));
-    for row in &mut header.x {
+/// Days of any hours with few marks.
+pub fn good(rng: &mut Rng, turn: usize) -> Vec<u8> {
+    let mut own = headers::any(rng, said(turn));
+    for row in &mut own.x {
         set_marks(rng, row, 60);
     }
-    let hours = all_short(rng, header.cat.len());
-    pieces::closed(rng, sheet(&header, &hours))
+    let hours = all_short(rng, own.cat.len());
+    let headers = three::around(rng, own, three::any);
+    pieces::closed(rng, text(&headers, &hours))
 }
 
 /// The mark of a row, 0 to 6: x4 to x6, no category, x1 to x3. And another one
@@ -143,7 +193,7 @@ fn mark(header: &mut Header, row: usize, hour: usize, other: usize) {
 }
 
 /// Every mark in every hour, with and without RTC.
-fn one_mark(_: &mut Rng, turn: usize) -> Vec<u8> {
+fn one_mark(rng: &mut Rng, turn: usize) -> Vec<u8> {
     let mut header = Header {
         rtc: (turn % 2) as i64,
         ..Header::default()
@@ -152,12 +202,12 @@ fn one_mark(_: &mut Rng, turn: usize) -> Vec<u8> {
     // Hour by hour, but far apart from one turn to the next.
     let hour = turn / 2 * 7 % hours;
     mark(&mut header, turn / 2 / hours % 7, hour, turn % 5);
-    paying_day(&header)
+    paying_day(&three::around(rng, header, three::quiet))
 }
 
 /// Marks in the last four hours of each count: those that reach two hours, with
 /// and without RTC, then all.
-fn late_mark(_: &mut Rng, turn: usize) -> Vec<u8> {
+fn late_mark(rng: &mut Rng, turn: usize) -> Vec<u8> {
     let mut header = plain(pieces::SAID[1 + turn % 3]);
     let hour = header.cat.len() - 1 - turn / 9 % 4;
     header.rtc = i64::from(turn / 36 % 2 == 0);
@@ -166,22 +216,23 @@ fn late_mark(_: &mut Rng, turn: usize) -> Vec<u8> {
         _ => 3 + turn / 3 % 4,
     };
     mark(&mut header, row, hour, turn % 5);
-    paying_day(&header)
+    paying_day(&three::around(rng, header, three::quiet))
 }
 
-fn many_marks(rng: &mut Rng, turn: usize) -> Vec<u8> {
+/// Days that pay, with marks of all kinds.
+pub fn many_marks(rng: &mut Rng, turn: usize) -> Vec<u8> {
     let mut header = headers::any(rng, said(turn));
     let once_in = rng.pick(&[2, 8, 24]);
     for row in &mut header.x {
         set_marks(rng, row, once_in);
     }
-    paying_day(&header)
+    paying_day(&three::around(rng, header, three::any))
 }
 
 /// Days of all the blocks that the program `hour` is tried with.
-fn any_blocks(rng: &mut Rng, turn: usize) -> Vec<u8> {
+pub fn any_blocks(rng: &mut Rng, turn: usize) -> Vec<u8> {
     let said = said(turn);
-    let head = plain(said).to_text();
+    let head = quiet(rng, said).to_text();
     days::any_blocks(rng, turn, &head, count(said), hour::PROGRAM.recipes)
 }
 
@@ -189,85 +240,41 @@ fn any_blocks(rng: &mut Rng, turn: usize) -> Vec<u8> {
 fn block_ends(rng: &mut Rng, turn: usize) -> Vec<u8> {
     let said = any_said(rng);
     let last = rng.below(count(said));
-    let text = sheet(&plain(said), &all_paying(last));
+    let text = text(&quiet(rng, said), &all_paying(last));
     days::block_ends::<Unit>(rng, turn, text, last)
 }
 
 /// Blocks at other places than their hours say, absent, doubled and apart.
 fn out_of_order(rng: &mut Rng, turn: usize) -> Vec<u8> {
-    let header = plain(any_said(rng));
-    let hours = all_paying(header.cat.len());
-    days::out_of_order(rng, turn, &header.to_text(), hours)
+    let said = any_said(rng);
+    let head = quiet(rng, said).to_text();
+    days::out_of_order(rng, turn, &head, all_paying(count(said)))
 }
 
-/// More blocks than the header's count, fewer, or just as many.
-fn by_count(rng: &mut Rng, turn: usize) -> Vec<u8> {
-    let header = plain(pieces::SAID[turn % 4]);
-    let mut hours = all_paying(header.cat.len());
+/// More blocks than the own header's count, fewer, or just as many, whatever the
+/// counts of the neighbours.
+pub fn by_count(rng: &mut Rng, turn: usize) -> Vec<u8> {
+    let headers = quiet(rng, pieces::SAID[turn % 4]);
+    let mut hours = all_paying(headers.own.cat.len());
     pieces::by_count(rng, &mut hours, turn / 4 % pieces::BY_COUNT);
-    pieces::closed(rng, sheet(&header, &hours))
+    pieces::closed(rng, text(&headers, &hours))
 }
 
 /// Bytes behind the last block, or just none.
 fn surplus(rng: &mut Rng, turn: usize) -> Vec<u8> {
-    let text = paying_day(&header(rng));
+    let text = paying_day(&any_headers(rng));
     days::surplus(rng, turn, text, &paying(0))
 }
 
 fn damaged(rng: &mut Rng) -> Vec<u8> {
-    let header = header(rng);
-    let hours = header.cat.len();
+    let headers = any_headers(rng);
+    let hours = headers.own.cat.len();
     let hours = if rng.once_in(2) {
         all_paying(hours)
     } else {
         all_short(rng, hours)
     };
-    pieces::damaged(rng, sheet(&header, &hours))
-}
-
-/// Two days that pay the same: of both forms, or with one paid hour changed.
-fn pair(rng: &mut Rng, turn: usize) -> Pair {
-    if turn % 4 == 3 {
-        return other_form(rng, turn);
-    }
-    let header = header(rng);
-    let place = rng.below(header.cat.len());
-    let mut hours = all_paying(header.cat.len());
-    let (mut record, mut change) = same::changed(rng, turn, same::CHANGES, true);
-    while matches!(change.bond, Bond::Becomes(_) | Bond::Hour(_)) {
-        let other = rng.below(99);
-        (record, change) = same::changed(rng, other, same::CHANGES, true);
-    }
-    record.day_ahead.hour = place as i64;
-    change.after.day_ahead.hour = place as i64;
-    hours[place] = record;
-    let before = sheet(&header, &hours);
-    hours[place] = change.after;
-    Pair {
-        name: change.name,
-        before,
-        after: sheet(&header, &hours),
-        bond: Bond::Same,
-    }
-}
-
-/// A sheet of form 1, and the same bytes under a header that says 24 hours.
-fn other_form(rng: &mut Rng, turn: usize) -> Pair {
-    let turn = turn / 4 * 2;
-    let before = match turn % 8 {
-        0 => good(rng, turn),
-        2 => many_marks(rng, turn),
-        4 => by_count(rng, turn / 8 * 4),
-        _ => any_blocks(rng, turn),
-    };
-    let first = b"form=1\n";
-    let after = [b"form=2\nhours=24\n", &before[first.len()..]].concat();
-    Pair {
-        name: "other form",
-        before,
-        after,
-        bond: Bond::Same,
-    }
+    pieces::damaged(rng, text(&headers, &hours))
 }
 
 #[cfg(test)]
@@ -280,7 +287,8 @@ mod tests {
             let hours: String = (0..count(said))
                 .map(|h| format!("hour={h} pay={}\n", h + 1))
                 .collect();
-            let answer = second::day_text(&paying_day(&plain(said)));
+            let day = Headers::alone(plain(said));
+            let answer = second::day_text(&paying_day(&day));
             assert_eq!(answer, format!("{hours}total={total}\n"));
         }
     }
@@ -310,11 +318,22 @@ mod tests {
 
     #[test]
     fn what_came_of_the_hours() {
-        let text = paying_day(&Header::counted(23));
-        let came = |text: &[u8]| outcome(text, "hour=22 pay=1\ntotal=1\n");
+        let of = |own: Header, neighbour: Option<Header>| Headers {
+            before: neighbour.clone(),
+            own,
+            after: neighbour,
+        };
+        let came = |headers: &Headers| {
+            let answer = "hour=22 pay=1\ntotal=1\n";
+            outcome(headers.to_text().as_bytes(), answer)
+        };
         let paid = |says: &str| Some(format!("{says}: paid"));
-        assert_eq!(came(&text), paid("form=2 hours=23"));
-        assert_eq!(came(&paying_day(&Header::default())), paid("form=1"));
-        assert_eq!(outcome(&text, "refused=1 at=1\n"), None);
+        for neighbour in [None, Some(Header::counted(25)), Some(Header::default())] {
+            let short = of(Header::counted(23), neighbour.clone());
+            assert_eq!(came(&short), paid("form=2 hours=23"));
+            let plain = of(Header::default(), neighbour);
+            assert_eq!(came(&plain), paid("form=1"));
+        }
+        assert_eq!(outcome(b"", "refused=1 at=1 header=0\n"), None);
     }
 }

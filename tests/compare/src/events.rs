@@ -10,7 +10,7 @@ use second::import::{CountedImportLine, ImportHourLine, ImportInterval};
 use second::record::{Kind, Unit};
 use second::text::{Fault, Number, SheetLine, Side};
 use second::trace::{DerateKind, ImportTest, Nth, Spot};
-use second::{Check, Curve, Event, Interval, Run};
+use second::{Check, Curve, Event, Interval, MidnightEvent, Run};
 
 /// Below, on it, above.
 pub(crate) const ORDERS: [Ordering; 3] = [Ordering::Less, Ordering::Equal, Ordering::Greater];
@@ -61,6 +61,7 @@ pub fn of_day() -> Vec<Event> {
     events.extend(forms_of_headers());
     events.extend(ranges_of_header(1..=10, Spot::Header));
     events.extend(ranges_of_header(2..=11, Spot::CountedHeader));
+    events.extend(MidnightEvent::all().into_iter().map(Event::Midnight));
     events
 }
 

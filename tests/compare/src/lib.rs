@@ -9,11 +9,13 @@
 //! - [`pieces`] and [`days`]: texts of a head and the blocks of a day;
 //! - [`headers`], [`line_heads`] and [`rows`]: the headers of day sheets, the
 //!   heads of lines' days, and the rows of marks in both;
+//! - [`three`] and [`midnight`]: the headers of three days, in which places they
+//!   are wrong, and marks that reach from one day into the other;
 //! - [`stored`]: sheets that go up or down;
 //! - [`hour`], [`day`], [`import`], [`mod@line`], [`archive`]: the texts of each
 //!   program, recipe by recipe; and [`line_block`]: the blocks of a line;
 //! - [`bonds`]: pairs of texts whose answers are bound to each other, made by
-//!   [`same`] and [`line_same`];
+//!   [`same`], [`day_same`] and [`line_same`];
 //! - [`events`] and [`line_events`]: what the texts of each program have to
 //!   reach;
 //! - [`written`] and [`answers`]: what programs write, and where it differs;
@@ -30,6 +32,7 @@ pub mod arguments;
 pub mod bonds;
 pub mod damage;
 pub mod day;
+pub mod day_same;
 pub mod days;
 pub mod events;
 pub mod headers;
@@ -44,6 +47,7 @@ pub mod line_heads;
 pub mod line_hours;
 pub mod line_same;
 pub mod lines;
+pub mod midnight;
 pub mod outside;
 pub mod pieces;
 pub mod plan;
@@ -54,6 +58,7 @@ pub mod same;
 pub mod stored;
 pub mod stretches;
 pub mod tally;
+pub mod three;
 pub mod written;
 
 /// Every program that can be compared.
@@ -102,7 +107,7 @@ mod tests {
 
     #[test]
     fn day_texts_reach_everything() {
-        reaches(&day::PROGRAM, 1500);
+        reaches(&day::PROGRAM, 2000);
     }
 
     #[test]

@@ -156,15 +156,17 @@ fn counted(rng: &mut Rng, good_once_in: usize) -> (Sheet, Rows) {
 
 /// A row of another length, and what else can be wrong with it or behind it.
 pub fn other_rows(rng: &mut Rng, turn: usize) -> Vec<u8> {
-    let (sheet, rows) = counted(rng, 2);
-    rows::other_lengths(rng, turn, sheet, &rows)
+    let (mut sheet, rows) = counted(rng, 2);
+    rows::other_lengths(rng, turn, &mut sheet, &rows);
+    sheet.text()
 }
 
 /// A row so long that its LF, or a letter at its far end, stands around the end
 /// of a read, of several or of what is kept.
 pub fn long_rows(rng: &mut Rng, turn: usize) -> Vec<u8> {
-    let (sheet, rows) = counted(rng, 6);
-    rows::long(rng, turn, sheet, &rows)
+    let (mut sheet, rows) = counted(rng, 6);
+    rows::long(rng, turn, &mut sheet, &rows, 0);
+    sheet.text()
 }
 
 #[cfg(test)]

@@ -179,12 +179,17 @@ pub fn surplus(rng: &mut Rng, kind: usize) -> Vec<u8> {
 
 /// The text up to a line's last byte, to its first, or to any of it.
 pub fn end_in_line(rng: &mut Rng, mut sheet: Sheet, line: usize, kind: usize) -> Vec<u8> {
+    end_within(rng, &mut sheet, line, kind);
+    sheet.text()
+}
+
+/// Ends a sheet so.
+pub fn end_within(rng: &mut Rng, sheet: &mut Sheet, line: usize, kind: usize) {
     sheet.end_in(line, |length| match kind % 3 {
         0 => length,
         1 => 0,
         _ => rng.below(length + 1),
     });
-    sheet.text()
 }
 
 /// The text, damaged once to three times.

@@ -35,7 +35,7 @@ fn digits(rng: &mut Rng, length: usize) -> Vec<u8> {
 }
 
 /// Rows of other lengths, one or all of them.
-pub fn other_lengths(rng: &mut Rng, turn: usize, mut sheet: Sheet, rows: &Rows) -> Vec<u8> {
+pub fn other_lengths(rng: &mut Rng, turn: usize, sheet: &mut Sheet, rows: &Rows) {
     let length = ROW_LENGTHS[turn % ROW_LENGTHS.len()];
     let row = rows.any(rng);
     let all = rng.once_in(3);
@@ -45,8 +45,7 @@ pub fn other_lengths(rng: &mut Rng, turn: usize, mut sheet: Sheet, rows: &Rows) 
             set_value(&mut sheet.lines[line], 0, &value);
         }
     }
-    damage(rng, &mut sheet, row, rows, turn % 7);
-    sheet.text()
+    damage(rng, sheet, row, rows, turn % 7);
 }
 
 /// A byte that is no digit in a row, at its far end or behind it; no LF; a fault
@@ -72,11 +71,13 @@ fn damage(rng: &mut Rng, sheet: &mut Sheet, row: usize, rows: &Rows, kind: usize
     }
 }
 
-/// Rows that end around the end of a read, of several or of what is kept.
-pub fn long(rng: &mut Rng, turn: usize, mut sheet: Sheet, rows: &Rows) -> Vec<u8> {
+/// Rows that end around the end of a read, of several or of what is kept, where
+/// so many bytes stand in front of the header.
+pub fn long(rng: &mut Rng, turn: usize, sheet: &mut Sheet, rows: &Rows, in_front: usize) {
     let row = rows.any(rng);
     let end = ENDS[turn % ENDS.len()] - 1 + rng.below(3);
-    let before: usize = sheet.lines[..row].iter().map(|line| line.len() + 1).sum();
+    let above: usize = sheet.lines[..row].iter().map(|line| line.len() + 1).sum();
+    let before = in_front + above;
     let key = sheet.lines[row].iter().position(|byte| *byte == b'=');
     let length = end.saturating_sub(before + key.map_or(0, |at| at + 1));
     let value = digits(rng, length);
@@ -87,8 +88,7 @@ pub fn long(rng: &mut Rng, turn: usize, mut sheet: Sheet, rows: &Rows) -> Vec<u8
         let more = digits(rng, length);
         sheet.lines[other].extend(more);
     }
-    damage(rng, &mut sheet, row, rows, turn % 7);
-    sheet.text()
+    damage(rng, sheet, row, rows, turn % 7);
 }
 
 /// Each of these ends has its turns, and the longest line made in them lacks less

@@ -1,15 +1,15 @@
 //! Stored sheets that are to go up or down: good ones with any bytes behind
 //! their header, and headers that go neither way.
 
-use second::text::cut_block;
 use second::Header;
 
 use crate::damage::{set_value, Sheet};
 use crate::day;
-use crate::headers::{self, ROWS};
+use crate::headers::{self, spoil, FIELDS, ROWS};
 use crate::pieces::{self, Said, COUNTS_OUT_OF_FORM, NO_COUNTS};
 use crate::random::Rng;
 use crate::rows::ENDS;
+use crate::three::parts;
 
 /// Numbers of forms that there are not, some of them with a byte of one that
 /// there is, and values that are no numbers in the sheet's form.
@@ -33,10 +33,17 @@ pub fn marked(rng: &mut Rng, said: Said) -> Header {
     header
 }
 
-/// All that `day` is tried with behind the header of a sheet.
+/// A day as `day` is tried with, stored: its own header and its blocks.
+pub fn of_day(rng: &mut Rng, turn: usize) -> Vec<u8> {
+    let text = day::PROGRAM.case(rng.bits(), turn).text;
+    let [_, own, _, blocks] = parts(&text);
+    [own, blocks].concat()
+}
+
+/// All that `day` is tried with behind the three headers.
 fn blocks(rng: &mut Rng, turn: usize) -> Vec<u8> {
-    let sheet = day::PROGRAM.case(rng.bits(), turn).text;
-    cut_block(&sheet).rest.to_vec()
+    let text = day::PROGRAM.case(rng.bits(), turn).text;
+    parts(&text)[3].to_vec()
 }
 
 /// Bytes to stand behind a header, in most turns few.
@@ -50,7 +57,7 @@ fn few_behind(rng: &mut Rng, turn: usize) -> Vec<u8> {
 /// Sheets with the blocks of their hours.
 pub fn good(rng: &mut Rng, turn: usize) -> Vec<u8> {
     let header = marked(rng, said(turn));
-    pieces::closed(rng, day::paying_day(&header))
+    pieces::closed(rng, day::paying_sheet(&header))
 }
 
 /// Blocks that are absent, faulty, surplus or cut, and bytes that are none.
@@ -89,25 +96,6 @@ pub fn long(rng: &mut Rng, turn: usize) -> Vec<u8> {
     let more = rng.bytes_of(bytes, end.saturating_sub(text.len()));
     text.extend(more);
     text
-}
-
-/// What a header's lines say, apart from the hours: the form, the unit, `rtc`,
-/// `cat` and the six exceptions.
-const FIELDS: usize = 3 + ROWS;
-
-/// Puts one of them, counted from 0, out of range: in turn by each of these
-/// values or digits that it does not allow.
-fn spoil(rng: &mut Rng, header: &mut Header, field: usize, turn: usize) {
-    let number = |values: &[i64]| values[turn % values.len()];
-    let digit = |digits: &[u8]| digits[turn % digits.len()];
-    let hour = rng.below(header.cat.len());
-    match field {
-        0 => header.form = number(&[3, 0, -1, 9_999_999, -2]),
-        1 => header.unit = number(&[0, -1, -9_999_999]),
-        2 => header.rtc = number(&[2, -1, 17]),
-        3 => header.cat[hour] = digit(&[2, 6, 7, 9, 8]),
-        _ => header.x[field - 4][hour] = digit(&[2, 9, 3, 8, 4, 7, 5, 6]),
-    }
 }
 
 /// Each of them out of range under each count; now and then with another one,

@@ -6,7 +6,7 @@ use std::fmt::Debug;
 use std::path::{Path, PathBuf};
 use std::{fs, io};
 
-use second::{Event, Trace};
+use second::{Event, MidnightEvent, Trace};
 
 /// After so many failures a run is stopped.
 pub const ENOUGH: usize = 50;
@@ -123,6 +123,10 @@ impl Tally {
 /// Whether the report gives the event's count even if nobody asks for all.
 fn is_counted(event: Event) -> bool {
     use Event::*;
+    if let Midnight(event) = event {
+        // Line by line in each of the three headers is too long a list.
+        return !matches!(event, MidnightEvent::Refused(..));
+    }
     matches!(
         event,
         Refused(..)

@@ -1,22 +1,23 @@
-//! The day sheet: a header, the hours of the day and their total. A line's day
-//! has another header and blocks of another kind, and all else in common.
+//! The day: the headers of three days, the hours of the one between and their
+//! total. A line's day has one header of its own and blocks of another kind, and
+//! all else in common.
 
 use std::fmt;
 
-use crate::header::{read_header, FORMS};
 use crate::hour::{judge_kind, Answer, Ask};
-use crate::record::{Kind, Unit, MOST_INTERVALS};
-use crate::refusal::Refusal;
+use crate::joined::{self, Headers};
+use crate::record::{Kind, MOST_INTERVALS};
+use crate::refusal::HeaderRefusal;
 use crate::text::cut_block;
 use crate::trace::{Event, Trace};
 use crate::Run;
 
 pub use crate::header::{Header, Marks, HOURS};
 
-/// A day whose header is good.
+/// A day whose header is good, or whose three headers are.
 #[derive(Clone, Debug, PartialEq, Eq)]
-pub struct Day<H = Header> {
-    /// The header.
+pub struct Day<H = Headers> {
+    /// What stands above the blocks.
     pub header: H,
     /// The answer for each block place of the day.
     pub hours: Vec<Answer>,
@@ -32,17 +33,17 @@ impl<H> Day<H> {
     }
 }
 
-/// The answer to a day sheet.
+/// The answer to a day.
 #[derive(Clone, Debug, PartialEq, Eq)]
-pub enum DayAnswer<H = Header> {
+pub enum DayAnswer<H = Headers, R = HeaderRefusal> {
     /// The header is good; each hour has its own answer.
     Judged(Box<Day<H>>),
     /// The header is refused.
-    Refused(Refusal),
+    Refused(R),
 }
 
-/// Prints the answer as the program `day` does.
-impl<H> fmt::Display for DayAnswer<H> {
+/// Prints the answer as the programs `day` and `line` do.
+impl<H, R: fmt::Display> fmt::Display for DayAnswer<H, R> {
     fn fmt(&self, out: &mut fmt::Formatter<'_>) -> fmt::Result {
         match self {
             DayAnswer::Refused(refusal) => writeln!(out, "{refusal}"),
@@ -79,27 +80,10 @@ pub(crate) trait Head {
     fn note(&self, hour: usize, trace: &mut Trace);
 }
 
-impl Head for Header {
-    type Kind = Unit;
-
-    fn hours(&self) -> i64 {
-        self.hours
-    }
-
-    fn excluded(&self) -> Vec<bool> {
-        Header::excluded(self)
-    }
-
-    fn note(&self, hour: usize, trace: &mut Trace) {
-        Header::note(self, hour, trace);
-    }
-}
-
-/// Judges a day sheet.
+/// Judges a day with the headers of its neighbours.
 pub fn judge(text: &[u8], run: &mut Run) -> DayAnswer {
-    let head = cut_block(text);
-    let header = read_header(&head, &FORMS, &mut run.trace);
-    judge_below(header, head.rest, run)
+    let (headers, blocks) = joined::read_headers(text, &mut run.trace);
+    judge_below(headers, blocks, run)
 }
 
 /// What the program `day` prints for its input.
@@ -109,11 +93,11 @@ pub fn program(text: &[u8], run: &mut Run) -> String {
 
 /// The answer to a day whose header has been judged, and whose blocks are the
 /// given text.
-pub(crate) fn judge_below<H: Head>(
-    header: Result<H, Refusal>,
+pub(crate) fn judge_below<H: Head, R>(
+    header: Result<H, R>,
     text: &[u8],
     run: &mut Run,
-) -> DayAnswer<H> {
+) -> DayAnswer<H, R> {
     match header {
         Ok(header) => DayAnswer::Judged(Box::new(judge_hours(header, text, run))),
         Err(refusal) => DayAnswer::Refused(refusal),

@@ -1,12 +1,12 @@
-//! The header of a day sheet: the unit, its hours and their marks, and who is
-//! excluded by them.
+//! The header of a day sheet: the unit, its hours and their marks, and what the
+//! marks of an hour say by themselves.
 
 use crate::head::{
     all_good, ends_at, judged, one_number, one_row, row_length, write_number, write_row,
 };
 use crate::refusal::Refusal;
 use crate::text::{read_at, Cut, LineFault, DAY_HOURS, MARK, NAME};
-use crate::trace::{Event, Reason, Spot, Trace};
+use crate::trace::{Reason, Spot, Trace};
 
 pub use crate::head::Marks;
 
@@ -29,9 +29,6 @@ const CATEGORIES: [u8; 5] = [0, 1, 3, 4, 5];
 
 /// The exceptions 25.2.2.1 to 25.2.2.6.
 const EXCEPTIONS: [&str; 6] = ["x1", "x2", "x3", "x4", "x5", "x6"];
-
-/// How far the exceptions 4 to 6 reach, in hours before and after.
-const REACH: isize = 2;
 
 /// A day's header as it stands: a row of marks can have any digits, and any
 /// number of them.
@@ -114,40 +111,43 @@ impl Header {
         all_good(&good)
     }
 
-    /// Every reason for which the hour is excluded; none if it is eligible.
-    pub fn reasons(&self, hour: usize) -> Vec<Reason> {
+    /// Every reason for which an hour is excluded by itself: its category, and
+    /// the exceptions that reach no other hour. An hour that the day does not
+    /// have is in no category.
+    pub fn own_reasons(&self, hour: usize) -> Vec<Reason> {
         let mut reasons = Vec::new();
-        if matches!(self.cat.get(hour), None | Some(0)) {
+        if self.has_no_category(hour) {
             reasons.push(Reason::NoCategory);
         }
-        for mark in 1..=3 {
-            if self.is_set(mark, Some(hour)) {
-                reasons.push(Reason::Own(mark));
-            }
-        }
-        for mark in 4..=6 {
-            for hours in -REACH..=REACH {
-                let acts = mark == 4 || self.rtc == 1;
-                // Hours of another day are not looked at.
-                if acts && self.is_set(mark, hour.checked_add_signed(hours)) {
-                    reasons.push(Reason::Spread(mark, hours));
-                }
-            }
-        }
+        let set = (1..=3).filter(|mark| self.is_set(*mark, hour));
+        reasons.extend(set.map(Reason::Own));
         reasons
     }
 
-    /// Whether each hour is excluded. Every hour has its digit of `cat`.
-    pub fn excluded(&self) -> Vec<bool> {
-        let hours = 0..self.cat.len();
-        hours.map(|hour| !self.reasons(hour).is_empty()).collect()
+    /// Whether exception `mark`, 4 to 6, acts in an hour and around it: x5 and
+    /// x6 do so for a unit only that RTC can commit on this day.
+    pub fn acts(&self, mark: usize, hour: usize) -> bool {
+        self.is_set(mark, hour) && (mark == 4 || self.rtc == 1)
+    }
+
+    /// Whether an hour is in no category.
+    pub fn has_no_category(&self, hour: usize) -> bool {
+        matches!(self.cat.get(hour), None | Some(0))
     }
 
     /// Whether exception `mark`, 1 to 6, is set in an hour of this day.
-    fn is_set(&self, mark: usize, hour: Option<usize>) -> bool {
+    pub fn is_set(&self, mark: usize, hour: usize) -> bool {
         let row = mark.checked_sub(1).and_then(|i| self.x.get(i));
-        let digit = row.and_then(|row| row.get(hour?));
+        let digit = row.and_then(|row| row.get(hour));
         digit == Some(&1)
+    }
+
+    /// The line that says the unit.
+    pub fn unit_line(&self) -> usize {
+        match self.form {
+            COUNTED_FORM => 3,
+            _ => 2,
+        }
     }
 
     /// The header's lines with the closing empty one.
@@ -165,18 +165,6 @@ impl Header {
         }
         text.push('\n');
         text
-    }
-
-    /// Notes what the marks say of an hour.
-    pub(crate) fn note(&self, hour: usize, trace: &mut Trace) {
-        for reason in self.reasons(hour) {
-            trace.note(Event::Excluded(reason));
-        }
-        for mark in 5..=6 {
-            if self.rtc == 0 && self.is_set(mark, Some(hour)) {
-                trace.note(Event::MarkWithoutRtc(mark));
-            }
-        }
     }
 }
 
@@ -202,7 +190,7 @@ fn form_of(head: &Cut<'_>) -> Result<i64, LineFault> {
 }
 
 /// A line of the header in the layout that it has.
-fn spot_of(head: &Cut<'_>, line: usize) -> Spot {
+pub(crate) fn spot_of(head: &Cut<'_>, line: usize) -> Spot {
     match form_of(head) {
         Ok(COUNTED_FORM) => Spot::CountedHeader(line),
         _ => Spot::Header(line),

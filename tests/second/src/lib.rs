@@ -1,5 +1,5 @@
 //! The second program: it answers every text of document 01 (an hour block,
-//! a day sheet, a curtailed import) and a line's day, for days of 23, 24 and 25
+//! a day, a curtailed import) and a line's day, for days of 23, 24 and 25
 //! hours, with every check, and moves stored sheets from one form to the other,
 //! so that its answers can be laid beside those of the engine.
 //!
@@ -10,13 +10,15 @@
 //!
 //! - [`hour`]: one hour, from a lent block or from an [`HourRecord`], with the
 //!   lent row of contributions;
-//! - [`header`]: the header of a day and who is excluded by its marks;
-//! - [`day`]: the header, the day's hours and their total;
+//! - [`header`]: the header of a day and its marks;
+//! - [`joined`]: the headers of three days, and who is excluded by their marks;
+//! - [`day`]: the three headers, the day's hours and their total;
 //! - [`import`]: the curtailed import of one day;
 //! - [`mod@line`]: the day of an internal controllable line, and one of its blocks
 //!   with a lent row;
 //! - [`archive`]: a stored sheet in the other form;
-//! - [`trace`]: what an input reached, collected on the side.
+//! - [`trace`]: what an input reached, collected on the side; [`line_event`] and
+//!   [`midnight`]: what lines and days with their neighbours add to that.
 //!
 //! ```
 //! use second::{hour, Answer, Ask, Check, Event, HourRecord, Refusal, Run};
@@ -50,10 +52,13 @@ pub mod header;
 pub mod hour;
 pub mod import;
 pub mod interval;
+pub mod joined;
 pub mod keys;
 pub mod line;
 pub mod line_event;
 mod line_head;
+pub mod midnight;
+mod midnight_note;
 pub mod record;
 pub mod refusal;
 pub mod text;
@@ -64,10 +69,12 @@ pub use curve::{Curve, Step, Way};
 pub use day::{Day, DayAnswer, Header};
 pub use hour::{Answer, Ask, Paid};
 pub use import::ImportAnswer;
+pub use joined::Headers;
 pub use line::{LineAhead, LineHead, LineInterval, LineRecord};
 pub use line_event::{LineBranch, LineEvent};
+pub use midnight::{MidnightEvent, Neighbour};
 pub use record::{DayAhead, HourRecord, Interval};
-pub use refusal::{Check, Refusal};
+pub use refusal::{Check, HeaderRefusal, Refusal};
 pub use trace::{Event, Trace};
 
 /// How a call works and what it noted on the way.

@@ -7,7 +7,7 @@ use crate::day::{judge_below, DayAnswer, Head};
 use crate::hour::{judge_kind, Answer, Ask};
 use crate::line_event::{LineBranch, LineEvent};
 use crate::record::{Kind, Record};
-use crate::refusal::Check;
+use crate::refusal::{Check, Refusal};
 use crate::text::{cut_block, sheet_line, Line, ENERGY, HOUR, PRICE, SECONDS};
 use crate::trace::{Event, Trace};
 use crate::Run;
@@ -99,7 +99,7 @@ impl Head for LineHead {
 }
 
 /// Judges a line's day.
-pub fn judge(text: &[u8], run: &mut Run) -> DayAnswer<LineHead> {
+pub fn judge(text: &[u8], run: &mut Run) -> DayAnswer<LineHead, Refusal> {
     let head = cut_block(text);
     let read = LineHead::judged(&head, &mut run.trace);
     judge_below(read, head.rest, run)

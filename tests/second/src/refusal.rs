@@ -53,3 +53,18 @@ impl fmt::Display for Refusal {
         write!(out, "refused={} at={}", self.check.number(), self.place)
     }
 }
+
+/// A refused header of a day.
+#[derive(Clone, Copy, Debug, PartialEq, Eq, PartialOrd, Ord, Hash)]
+pub struct HeaderRefusal {
+    /// The check and the line of that header.
+    pub refusal: Refusal,
+    /// The header: 0 is the day before's, 1 the day's own, 2 the day after's.
+    pub header: usize,
+}
+
+impl fmt::Display for HeaderRefusal {
+    fn fmt(&self, out: &mut fmt::Formatter<'_>) -> fmt::Result {
+        write!(out, "{} header={}", self.refusal, self.header)
+    }
+}

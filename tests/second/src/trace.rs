@@ -8,6 +8,7 @@ use std::fmt;
 
 use crate::curve::CurveFault;
 use crate::line_event::{self, LineEvent};
+use crate::midnight::MidnightEvent;
 use crate::refusal::{Check, Refusal};
 use crate::text::{Fault, Side, DAY_HOURS};
 
@@ -198,6 +199,9 @@ pub enum Reason {
     /// The exception of this number, 4 to 6, is set so many hours later (or
     /// earlier, below 0) in the same day; 0 is the hour itself.
     Spread(usize, isize),
+    /// It is set so many hours later in the day after, or earlier, below 0, in
+    /// the day before.
+    Over(usize, isize),
 }
 
 /// What decides whether an interval of an import counts.
@@ -277,6 +281,8 @@ pub enum Event {
     ImportSum(Ordering),
     /// What the day of an internal controllable line reached.
     Line(LineEvent),
+    /// What a day reached with its neighbours.
+    Midnight(MidnightEvent),
 }
 
 impl Event {
@@ -327,6 +333,7 @@ impl Event {
         reasons.extend((1..=3).map(Reason::Own));
         for mark in 4..=6 {
             reasons.extend((-2..=2).map(|hours| Reason::Spread(mark, hours)));
+            reasons.extend([-2, -1, 1, 2].map(|hours| Reason::Over(mark, hours)));
         }
         reasons.into_iter().map(Event::Excluded).collect()
     }

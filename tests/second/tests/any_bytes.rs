@@ -6,7 +6,7 @@ mod common;
 use common::line::*;
 use common::*;
 use second::{archive, day, hour, import, line, Check, Header, Moved, Run, Way};
-use second::{day_text, down_text, up_text};
+use second::{down_text, up_text};
 
 /// Whether a printed line is `key=number` pairs with these keys; `-` may stand
 /// for a number.
@@ -32,9 +32,20 @@ fn is_hour_answer(text: &str) -> bool {
 }
 
 fn is_day_answer(text: &str) -> bool {
+    let places = ["header=0\n", "header=1\n", "header=2\n"];
+    let named = places.iter().any(|place| text.ends_with(place));
+    is_day(text, &["refused", "at", "header"]) && named == text.contains("header=")
+}
+
+fn is_line_answer(text: &str) -> bool {
+    is_day(text, &["refused", "at"])
+}
+
+/// Whether this is a printed day, a refused one with these keys.
+fn is_day(text: &str, refused: &[&str]) -> bool {
     let lines: Vec<&str> = text.lines().collect();
     if let [only] = lines[..] {
-        return is_line(only, &["refused", "at"]);
+        return is_line(only, refused);
     }
     let is_hour =
         |line: &&str| is_line(line, &["hour", "pay"]) || is_line(line, &["hour", "refused", "at"]);
@@ -48,12 +59,12 @@ fn is_import_answer(text: &str) -> bool {
     is_line(line, &["import", "pay"]) || is_line(line, &["refused", "hour", "at"])
 }
 
-/// A moved sheet has the same answers and goes back to the same bytes; a
-/// refusal names a line of the header.
+/// A moved sheet has the same answers, in whatever place `day` reads its header,
+/// and goes back to the same bytes; a refusal names a line of the header.
 fn is_moved_or_refused(text: &[u8], moved: Moved, back: fn(&[u8]) -> Moved, last: Check) -> bool {
     match moved {
         Moved::Sheet(other) => {
-            let same = day_text(&other) == day_text(text);
+            let same = in_each_place(&other) == in_each_place(text);
             same && back(&other) == Moved::Sheet(text.to_vec())
         }
         Moved::Refused(refusal) => {
@@ -71,7 +82,7 @@ fn ask_all(text: &[u8]) {
         (hour::program(text, run), is_hour_answer as fn(&str) -> bool),
         (day::program(text, run), is_day_answer),
         (import::program(text, run), is_import_answer),
-        (line::program(text, run), is_day_answer),
+        (line::program(text, run), is_line_answer),
     ] {
         assert!(
             answer.ends_with('\n') && fits(&answer),
@@ -153,20 +164,49 @@ fn changed_lines() {
     }
 }
 
+/// Days with neighbours on both sides, on one, and on none.
+fn neighboured_days() -> Vec<Vec<u8>> {
+    let empty = "\n".to_string();
+    let header = |hours| Header::counted(hours).to_text();
+    let neighbours = [
+        (empty.clone(), empty.clone()),
+        (header(23), empty.clone()),
+        (empty, Header::default().to_text()),
+        (header(25), header(24)),
+    ];
+    let sheets = (23..=25).map(counted_day);
+    let sheets = sheets.chain([day_of(&Header::default(), &one_cent_hours())]);
+    let days = sheets.zip(neighbours).map(|(sheet, (before, after))| {
+        between(before.as_bytes(), sheet.as_bytes(), after.as_bytes())
+    });
+    days.collect()
+}
+
 #[test]
-fn changed_days_and_imports() {
+fn changed_days() {
     let mut numbers = Numbers(11);
-    let mut days = vec![day_of(&Header::default(), &one_cent_hours())];
+    for day in (0..200).flat_map(|_| neighboured_days()) {
+        ask_all(&changed(&day, &mut numbers));
+        // Near the start, so that headers are met as often as blocks.
+        let (head, rest) = day.split_at(600);
+        ask_all(&[&changed(head, &mut numbers), rest].concat());
+    }
+}
+
+#[test]
+fn changed_sheets_and_imports() {
+    let mut numbers = Numbers(13);
+    let mut sheets = vec![day_of(&Header::default(), &one_cent_hours())];
     let mut imports = vec![import_of(7, 0, &one_cent_imports())];
     for hours in 23..=25 {
-        days.push(counted_day(hours));
+        sheets.push(counted_day(hours));
         imports.push(counted_import(hours as i64));
     }
-    for (day, import) in (0..300).flat_map(|_| days.iter().zip(&imports)) {
-        ask_all(&changed(day.as_bytes(), &mut numbers));
+    for (sheet, import) in (0..200).flat_map(|_| sheets.iter().zip(&imports)) {
+        ask_all(&changed(sheet.as_bytes(), &mut numbers));
         ask_all(&changed(import.as_bytes(), &mut numbers));
         // Near the start, so that headers are met as often as blocks.
-        for (text, near) in [(day, 400), (import, 40)] {
+        for (text, near) in [(sheet, 400), (import, 40)] {
             let (head, rest) = text.as_bytes().split_at(near);
             ask_all(&[&changed(head, &mut numbers), rest].concat());
         }

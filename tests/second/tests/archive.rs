@@ -3,7 +3,7 @@
 mod common;
 
 use common::*;
-use second::{day_text, down_text, up_text, Header, Moved};
+use second::{down_text, up_text, Header, Moved};
 
 /// What line 1 becomes going up, and the line behind it.
 const FIRST_1: &str = "form=1\n";
@@ -81,11 +81,17 @@ fn good_sheets_go_up_and_down() {
         row[i * 4] = 1;
         row[23 - i] = 1;
     }
+    // At midnight, too, where neighbours feel it.
+    (header.x[3][0], header.x[3][23]) = (1, 1);
     let text = day_of(&header, &one_cent_hours());
     both_ways(&text.as_bytes()[FIRST_1.len()..]);
-    // The answers are the same, hour by hour.
+    // The answers are the same, hour by hour, for the day itself and for its
+    // neighbours.
     let moved = exchanged(text.as_bytes(), FIRST_1, FIRST_2);
-    assert_eq!(day_text(text.as_bytes()), day_text(&moved));
+    let answers = in_each_place(text.as_bytes());
+    assert_eq!(answers, in_each_place(&moved));
+    let [_, before, after, both] = answers.map(|answer| answer.matches("pay=0").count());
+    assert_eq!([before, after, both], [2, 2, 4]);
 }
 
 #[test]

@@ -5,8 +5,8 @@ mod common;
 use common::*;
 use second::{day_text, Header};
 
-fn print(text: &str) -> String {
-    day_text(text.as_bytes())
+fn print(sheet: &str) -> String {
+    day_text(alone(sheet).as_bytes())
 }
 
 /// The blocks of one cent each, for so many hours from 0.

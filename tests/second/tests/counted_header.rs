@@ -8,18 +8,19 @@ use second::{day_text, Header};
 /// The rows of marks; `cat` is on line 5.
 const ROWS: [&str; 7] = ["cat", "x1", "x2", "x3", "x4", "x5", "x6"];
 
-#[track_caller]
-fn refused(text: &str, check: u8, line: usize) {
-    let printed = format!("refused={check} at={line}\n");
-    assert_eq!(day_text(text.as_bytes()), printed, "{text:.600}");
+fn print(sheet: &str) -> String {
+    day_text(alone(sheet).as_bytes())
 }
 
 #[track_caller]
-fn accepted(text: &str) {
-    assert!(
-        day_text(text.as_bytes()).starts_with("hour=0 "),
-        "{text:.600}"
-    );
+fn refused(sheet: &str, check: u8, line: usize) {
+    let printed = format!("refused={check} at={line} header=1\n");
+    assert_eq!(print(sheet), printed, "{sheet:.600}");
+}
+
+#[track_caller]
+fn accepted(sheet: &str) {
+    assert!(print(sheet).starts_with("hour=0 "), "{sheet:.600}");
 }
 
 #[test]

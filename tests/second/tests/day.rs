@@ -1,20 +1,21 @@
-//! Day sheets: the header, the blocks' places, exclusions and the total.
+//! Days without neighbours: the header, the blocks' places, exclusions and the
+//! total.
 
 mod common;
 
 use common::*;
 use second::{day, day_text, DayAnswer, Header, Run};
 
-fn print(text: &str) -> String {
-    day_text(text.as_bytes())
+fn print(sheet: &str) -> String {
+    day_text(alone(sheet).as_bytes())
 }
 
 #[track_caller]
-fn header_refused(text: &str, check: u8, line: usize) {
+fn header_refused(sheet: &str, check: u8, line: usize) {
     assert_eq!(
-        print(text),
-        format!("refused={check} at={line}\n"),
-        "{text}"
+        print(sheet),
+        format!("refused={check} at={line} header=1\n"),
+        "{sheet}"
     );
 }
 
@@ -60,7 +61,8 @@ fn bytes_behind_the_24th_block() {
     let text = good();
     let text = format!("{}x\n", &text[..text.len() - 1]);
     assert_eq!(print(&text), printed(&[(23, "refused=1 at=8")], "-"));
-    let DayAnswer::Judged(day) = day::judge((good() + "\n").as_bytes(), &mut Run::default()) else {
+    let text = alone(&good()) + "\n";
+    let DayAnswer::Judged(day) = day::judge(text.as_bytes(), &mut Run::default()) else {
         panic!("the header is good");
     };
     assert!(day.surplus && day.total().is_none());

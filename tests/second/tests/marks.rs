@@ -1,11 +1,11 @@
-//! Who is excluded by the marks of a day.
+//! Who is excluded by the marks of a day whose neighbours lack.
 
 use second::day::HOURS;
 use second::trace::Reason;
-use second::Header;
+use second::{Header, Headers};
 
 fn excluded_hours(header: &Header) -> Vec<usize> {
-    let excluded = header.excluded();
+    let excluded = Headers::alone(header.clone()).excluded();
     (0..excluded.len()).filter(|hour| excluded[*hour]).collect()
 }
 
@@ -43,7 +43,7 @@ fn x5_and_x6_act_as_x4_only_for_a_unit_that_rtc_commits() {
 }
 
 #[test]
-fn marks_do_not_reach_over_midnight() {
+fn marks_reach_to_the_ends_of_the_day() {
     for hours in 23..=25 {
         let day = || Header::counted(hours);
         let last = hours - 1;
@@ -56,7 +56,8 @@ fn marks_do_not_reach_over_midnight() {
 
 #[test]
 fn the_first_form_has_24_hours() {
-    assert_eq!(Header::default().excluded(), [false; HOURS]);
+    let plain = Headers::alone(Header::default());
+    assert_eq!(plain.excluded(), [false; HOURS]);
     excludes(Header::default(), 4, &[23], &[21, 22, 23]);
 }
 
@@ -89,10 +90,11 @@ fn an_hour_without_category_is_excluded_and_still_spreads_its_marks() {
     header.cat = vec![4; HOURS];
     header.cat[10] = 0;
     assert_eq!(excluded_hours(&header), [8, 9, 10, 11, 12]);
+    let headers = Headers::alone(header);
     assert_eq!(
-        header.reasons(10),
+        headers.reasons(10),
         [Reason::NoCategory, Reason::Spread(4, 0)]
     );
-    assert_eq!(header.reasons(8), [Reason::Spread(4, 2)]);
-    assert_eq!(header.reasons(12), [Reason::Spread(4, -2)]);
+    assert_eq!(headers.reasons(8), [Reason::Spread(4, 2)]);
+    assert_eq!(headers.reasons(12), [Reason::Spread(4, -2)]);
 }

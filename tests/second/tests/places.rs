@@ -7,8 +7,8 @@ use common::line::line_day;
 use common::*;
 use second::day::HOURS;
 use second::trace::{Branch, ImportTest, Nth, Reason, Spot};
-use second::{archive, day, hour, import, line, Ask, Check, Curve, Event, Header, HourRecord};
-use second::{Interval, LineEvent, Moved, Run};
+use second::{archive, day, hour, import, line, Ask, Check, Curve, Event, Header, Headers};
+use second::{HourRecord, Interval, LineEvent, Moved, Run};
 
 /// An hour of thirty intervals in each of which a unit runs below its
 /// day-ahead schedule.
@@ -27,6 +27,9 @@ fn thirty() -> HourRecord {
     record.set_intervals(&[run; 30]);
     record
 }
+
+/// The rows of marks of a header.
+const ROWS: [&str; 7] = ["cat", "x1", "x2", "x3", "x4", "x5", "x6"];
 
 const KINDS: [(Nth, usize); 3] = [(Nth::First, 1), (Nth::Inner, 17), (Nth::Last, 30)];
 
@@ -78,39 +81,35 @@ fn refused_hours(run: &mut Run) {
     assert_eq!(answer.cents(), None);
 }
 
+fn judge_alone(sheet: &str, run: &mut Run) {
+    day::judge(alone(sheet).as_bytes(), run);
+}
+
 fn refused_headers(run: &mut Run) {
     let text = day_of(&Header::default(), &still_hours());
     for line in 1..=10 {
-        day::judge(with_line(&text, line, "x").as_bytes(), run);
+        judge_alone(&with_line(&text, line, "x"), run);
     }
-    day::judge(without_line(&text, 11).as_bytes(), run);
-    day::judge(with_value(&text, 1, "form", "3").as_bytes(), run);
-    day::judge(with_value(&text, 2, "unit", "0").as_bytes(), run);
-    day::judge(with_value(&text, 3, "rtc", "2").as_bytes(), run);
-    for (i, key) in ["cat", "x1", "x2", "x3", "x4", "x5", "x6"]
-        .iter()
-        .enumerate()
-    {
-        day::judge(
-            with_value(&text, 4 + i, key, &"2".repeat(24)).as_bytes(),
-            run,
-        );
+    judge_alone(&without_line(&text, 11), run);
+    for (line, key, value) in [(1, "form", "3"), (2, "unit", "0"), (3, "rtc", "2")] {
+        judge_alone(&with_value(&text, line, key, value), run);
+    }
+    for (i, key) in ROWS.into_iter().enumerate() {
+        judge_alone(&with_value(&text, 4 + i, key, &"2".repeat(24)), run);
     }
 }
 
 fn refused_counted_headers(run: &mut Run) {
     let text = counted_day(25);
     for line in 2..=11 {
-        day::judge(with_line(&text, line, "x").as_bytes(), run);
+        judge_alone(&with_line(&text, line, "x"), run);
     }
-    day::judge(without_line(&text, 12).as_bytes(), run);
+    judge_alone(&without_line(&text, 12), run);
     for (line, key) in [(2, "hours"), (3, "unit"), (4, "rtc")] {
-        day::judge(with_value(&text, line, key, "-1").as_bytes(), run);
+        judge_alone(&with_value(&text, line, key, "-1"), run);
     }
-    let rows = ["cat", "x1", "x2", "x3", "x4", "x5", "x6"];
-    for (i, key) in rows.into_iter().enumerate() {
-        let twos = with_value(&text, 5 + i, key, &"2".repeat(25));
-        day::judge(twos.as_bytes(), run);
+    for (i, key) in ROWS.into_iter().enumerate() {
+        judge_alone(&with_value(&text, 5 + i, key, &"2".repeat(25)), run);
     }
 }
 
@@ -190,17 +189,17 @@ fn every_refusal_at_every_kind_of_place() {
 fn every_count_of_hours() {
     let mut run = Run::default();
     for hours in 23..=25 {
-        day::judge(counted_day(hours).as_bytes(), &mut run);
+        judge_alone(&counted_day(hours), &mut run);
         import::judge(counted_import(hours as i64).as_bytes(), &mut run);
     }
     assert_eq!(run.trace.missing(Event::counts()), []);
     // A sheet that does not say them has 24.
-    day::judge(Header::default().to_text().as_bytes(), &mut run);
+    judge_alone(&Header::default().to_text(), &mut run);
     import::judge(import_of(7, 0, &[]).as_bytes(), &mut run);
     assert_eq!(run.trace.count(Event::DayHours(24)), 2);
     assert_eq!(run.trace.count(Event::ImportHours(24)), 2);
     // A header that is refused has none.
-    day::judge(Header::counted(26).to_text().as_bytes(), &mut run);
+    judge_alone(&Header::counted(26).to_text(), &mut run);
     import::judge(counted_import(26).as_bytes(), &mut run);
     assert!(!run.trace.saw(Event::DayHours(26)));
     assert!(!run.trace.saw(Event::ImportHours(26)));
@@ -231,16 +230,35 @@ fn every_exclusion() {
     for mark in 0..6 {
         header.x[mark][2 + 4 * (mark % 5)] = 1;
     }
-    day::judge(header.to_text().as_bytes(), &mut run);
-    assert_eq!(run.trace.missing(Event::exclusions()), []);
+    let headers = Headers {
+        before: Some(header.clone()),
+        own: header.clone(),
+        after: Some(header.clone()),
+    };
+    judge_alone(&header.to_text(), &mut run);
+    let over = |event: &Event| matches!(event, Event::Excluded(Reason::Over(..)));
+    let (over, within): (Vec<Event>, Vec<Event>) = Event::exclusions().into_iter().partition(over);
+    assert_eq!(run.trace.missing(within), []);
+    assert_eq!(run.trace.missing(over.clone()), over);
     assert!(!run.trace.saw(Event::MarkWithoutRtc(5)));
+    over_midnight(headers, &mut run);
+    assert_eq!(run.trace.missing(Event::exclusions()), []);
     header.rtc = 0;
     run.trace.clear();
-    day::judge(header.to_text().as_bytes(), &mut run);
+    judge_alone(&header.to_text(), &mut run);
     assert!(run.trace.saw(Event::MarkWithoutRtc(5)));
     assert!(run.trace.saw(Event::MarkWithoutRtc(6)));
     assert!(!run.trace.saw(Event::Excluded(Reason::Spread(5, 0))));
     assert!(run.trace.saw(Event::Excluded(Reason::Spread(4, -2))));
+}
+
+/// Judges the days with x4 to x6 of both neighbours at midnight.
+fn over_midnight(mut headers: Headers, run: &mut Run) {
+    for (day, hour) in [(&mut headers.before, 23), (&mut headers.after, 0)] {
+        let rows = day.iter_mut().flat_map(|day| &mut day.x[3..]);
+        rows.for_each(|row| row[hour] = 1);
+    }
+    day::judge(headers.to_text().as_bytes(), run);
 }
 
 #[test]
@@ -258,7 +276,7 @@ fn why_an_import_counts_or_not() {
 
 #[test]
 fn traces_add_up_and_can_be_off() {
-    let text = day_of(&Header::default(), &still_hours());
+    let text = alone(&day_of(&Header::default(), &still_hours()));
     let mut run = Run::default();
     day::judge(text.as_bytes(), &mut run);
     let once = run.trace.clone();

@@ -64,7 +64,9 @@ fn refusals_are_answers() {
     prints(HOUR, "\n", "refused=1 at=1\n");
     prints(HOUR, &WORKED[..WORKED.len() - 1], "refused=1 at=7\n");
     prints(HOUR, &with_value(WORKED, 7, "s", "899"), "refused=5 at=0\n");
-    prints(DAY, "", "refused=1 at=1\n");
+    prints(DAY, "", "refused=1 at=1 header=0\n");
+    prints(DAY, "\n", "refused=1 at=1 header=1\n");
+    prints(DAY, "\n\n", "refused=1 at=1 header=1\n");
     prints(IMPORT, "", "refused=1 hour=- at=1\n");
     prints(IMPORT, "import=1 cts=0\n\n", "refused=1 hour=0 at=1\n");
 }
@@ -72,7 +74,7 @@ fn refusals_are_answers() {
 #[test]
 fn day_and_import_print_their_totals() {
     let hours: String = (0..24).map(|hour| format!("hour={hour} pay=1\n")).collect();
-    let text = day_of(&Header::default(), &one_cent_hours());
+    let text = alone(&day_of(&Header::default(), &one_cent_hours()));
     prints(DAY, &text, &format!("{hours}total=24\n"));
     prints(DAY, &(text + "\n"), &format!("{hours}total=-\n"));
     let text = import_of(7, 0, &one_cent_imports());
@@ -87,13 +89,41 @@ fn days_on_which_the_clock_changes() {
     for hours in [23, 25] {
         let lines = (0..hours).map(|hour| format!("hour={hour} pay=1\n"));
         let lines: String = lines.collect();
-        prints(DAY, &counted_day(hours), &format!("{lines}total={hours}\n"));
+        let text = alone(&counted_day(hours));
+        prints(DAY, &text, &format!("{lines}total={hours}\n"));
         let answer = format!("import=7 pay={hours}\n");
         prints(IMPORT, &counted_import(hours as i64), &answer);
     }
     let header = Header::counted(26).to_text();
-    prints(DAY, &header, "refused=2 at=2\n");
+    prints(DAY, &alone(&header), "refused=2 at=2 header=1\n");
     prints(IMPORT, &counted_import(26), "refused=2 hour=- at=1\n");
+}
+
+#[test]
+fn day_reads_the_headers_of_three_days() {
+    let own = counted_day(25);
+    let neighbour = |unit, hours, marked: usize| {
+        let mut header = Header {
+            unit,
+            ..Header::counted(hours)
+        };
+        header.x[3][marked] = 1;
+        header.to_text()
+    };
+    let print = |before: &str, after: &str, answer: &str| {
+        let text = between(before.as_bytes(), own.as_bytes(), after.as_bytes());
+        prints(DAY, &String::from_utf8_lossy(&text), answer);
+    };
+    let (before, after) = (neighbour(1, 23, 22), neighbour(1, 24, 1));
+    let unpaid = [0, 1, 24].map(|hour| (hour, "pay=0"));
+    print(&before, &after, &printed(25, &unpaid, "22"));
+    print(&before, "\n", &printed(25, &unpaid[..2], "23"));
+    print("\n", &after, &printed(25, &unpaid[2..], "24"));
+    let other = neighbour(2, 24, 0);
+    print(&other, &other, "refused=2 at=3 header=0\n");
+    print(&before, &other, "refused=2 at=3 header=2\n");
+    print("form=1\n\n", &after, "refused=1 at=2 header=0\n");
+    print(&before, "form=2\nhours=23\n\n", "refused=1 at=3 header=2\n");
 }
 
 #[test]
@@ -172,7 +202,8 @@ fn hour_does_not_read_what_follows() {
 
 #[test]
 fn a_closed_output_does_no_harm() {
-    let day = day_of(&Header::default(), &one_cent_hours());
+    let sheet = day_of(&Header::default(), &one_cent_hours());
+    let day = alone(&sheet);
     let import = import_of(7, 0, &one_cent_imports());
     let counted = counted_day(24);
     let line = line_day(24);
@@ -181,7 +212,7 @@ fn a_closed_output_does_no_harm() {
         (DAY, &day),
         (IMPORT, &import),
         (LINE, &line),
-        (UP, &day),
+        (UP, &sheet),
         (DOWN, &counted),
     ] {
         let mut child = start(program, &[]);
@@ -201,7 +232,7 @@ fn a_closed_output_does_no_harm() {
 fn an_input_that_cannot_be_read_is_empty() {
     for (program, answer) in [
         (HOUR, "refused=1 at=1\n"),
-        (DAY, "refused=1 at=1\n"),
+        (DAY, "refused=1 at=1 header=0\n"),
         (IMPORT, "refused=1 hour=- at=1\n"),
         (LINE, "refused=1 at=1\n"),
     ] {

@@ -6,7 +6,7 @@ use Rattle.tariff.specs.declared.Found.{Found}
 use Rattle.tariff.specs.Reply.{shown}
 use Rattle.tariff.specs.Total.{toldTotal, toldAll}
 use Rattle.page.proofs.Pages.{put-then, put-as}
-use Rattle.answers.specs.Answers.{dayLines}
+use Rattle.answers.specs.Answers.{endingOf, dayLines}
 use Rattle.answers.proofs.put_day.Statement.{statement}
 use Rattle.answers.proofs.put_day.Tie as tie
 
@@ -15,7 +15,7 @@ refusal c =
     let at-header = c .before .before .before .before .before in
     let start = at-header .before .before .before in
     let a = start .args in
-    put-as (ap (λ (f : Found). dayLines (shown f) (take (a .count) (toldAll (a .hours))) (toldTotal (a .total))) (sym (at-header .header .given .1))) (c .before .before .put-refusal .ensures)
+    put-as (ap (λ (f : Found). dayLines (endingOf (a .ending)) (shown f) (take (a .count) (toldAll (a .hours))) (toldTotal (a .total))) (sym (at-header .found .given .1))) (c .before .before .put-ending .ensures)
 
 lines : tie.Need-returns-2
 lines c =
@@ -24,7 +24,7 @@ lines c =
     let start = at-enum-told .before .before .before in
     let a = start .args in
     put-as
-    (ap (λ (f : Found). dayLines (shown f) (take (a .count) (toldAll (a .hours))) (toldTotal (a .total))) (sym (at-enum-told .enum-told .given .1)))
+    (ap (λ (f : Found). dayLines (endingOf (a .ending)) (shown f) (take (a .count) (toldAll (a .hours))) (toldTotal (a .total))) (sym (at-enum-told .enum-told .given .1)))
     (put-then (at-put-hours .put-hours .ensures) (c .before .before .put-total .ensures))
 
 pub put-day-spec : {M : Type 1} → statement M

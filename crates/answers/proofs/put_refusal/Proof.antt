@@ -1,21 +1,10 @@
--- `put_refusal` writes the number and then the place.
-use mathlib.Core.Path.{ap}
+-- `put_refusal` writes a refusal whose line ends behind its place.
 use borrow.Author.Needs.{needs}
-use Rattle.text.specs.Text.{bytes}
-use Rattle.page.specs.Numerals.{counted}
-use Rattle.page.proofs.Pages.{put-as}
-use Rattle.answers.proofs.Ends.{put-end}
 use Rattle.answers.proofs.put_refusal.Statement.{statement}
 use Rattle.answers.proofs.put_refusal.Tie as tie
 
 returns : tie.Need-returns
-returns c =
-    let put = c .before .before in
-    let place = put .before in
-    let number = place .before .before .before .before in
-    put-end (place .place-of .ensures)
-    (put-as (ap (counted (bytes "refused=")) (number .before .number-of .ensures)) (number .put-count .ensures))
-    (put .put-place .ensures)
+returns c = c .before .before .put-ending .ensures
 
 pub put-refusal-spec : {M : Type 1} → statement M
-put-refusal-spec = tie.close (tie.spec (λ c. search needs) (λ c κs. search needs) (λ c κs. search needs) (λ c κs. search needs) (λ c κs. search needs) (λ c. search needs) returns)
+put-refusal-spec = tie.close (tie.spec (λ c κs. search needs) (λ c. search needs) returns)

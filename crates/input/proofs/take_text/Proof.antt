@@ -9,20 +9,20 @@ use Rattle.intake.specs.declared.Taken.{Taken}
 use Rattle.intake.specs.Intake.{PIECES}
 use Rattle.intake.proofs.Store.{kept-within, counts}
 use Rattle.intake.proofs.Arrived.{SoFar, none-yet, a-part-more, taken-in}
-use Rattle.input.specs.Said.{isHeaded}
+use Rattle.input.specs.Said.{headsOf}
 use Rattle.input.proofs.take_text.Statement.{statement}
 use Rattle.input.proofs.take_text.Tie as tie
 
 abbrev Inv-loop : tie.InvT-loop
 Inv-loop store₀ kind taken₀ turns₀ store taken turns =
-    (length store ≡ length store₀) × (taken .kept .n ≤ length store) × SoFar store₀ PIECES (isHeaded kind) store taken
+    (length store ≡ length store₀) × (taken .kept .n ≤ length store) × SoFar store₀ PIECES (headsOf kind) store taken
 
 abbrev μ-loop : tie.MeasureT-loop
 μ-loop store₀ kind taken₀ turns₀ store taken turns = turns
 
 loop-holds : tie.Need-loop-holds Inv-loop μ-loop
 loop-holds c =
-    let begun = rw (c .before .is-headed .ensures) at (c .begin .ensures) in
+    let begun = rw (c .before .heads-of .ensures) at (c .begin .ensures) in
     (refl, let e = ap (λ (t : Taken). t .kept .n) begun in omega arith, none-yet _ _ _ _ begun)
 
 -- a read more
@@ -44,7 +44,7 @@ module _ (c : tie.After-kept Inv-loop μ-loop) where
       let l = turn .loop in
       kept-within (l .store) (came .take-some .last .0) (l .taken .kept) _ _ (came .take-some .ensures .state) same (l .inv .1)
 
-  sofar : SoFar (start .args .store .now) PIECES (isHeaded (start .args .kind)) (came .take-some .last .0) (came .take-some .result)
+  sofar : SoFar (start .args .store .now) PIECES (headsOf (start .args .kind)) (came .take-some .last .0) (came .take-some .result)
   sofar = a-part-more _ _ _ _ _ (turn .loop .inv .2) _ _ (came .take-some .ensures)
 
 returns : tie.Need-returns Inv-loop μ-loop

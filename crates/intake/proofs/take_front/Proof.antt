@@ -2,7 +2,6 @@
 use mathlib.Core.Path.{_≡_, refl}
 use Prim.Native.Nat.{_+_}
 use borrow.Author.Needs.{needs}
-use borrow.Author.Tests.{not-true}
 use lib.ListN.{length}
 use Rattle.intake.proofs.Fronts.{SoFar, none-yet, rowBehind, a-part-more, at-end, at-closed, at-long}
 use Rattle.intake.proofs.take_front.Statement.{statement}
@@ -33,7 +32,7 @@ returns : tie.Need-returns Inv-loop μ-loop
 returns c = at-end _ _ _ (sofar (c .before))
 
 returns-2 : tie.Need-returns-2 Inv-loop μ-loop
-returns-2 c = at-closed _ _ _ (sofar (c .before .before .before)) (not-true _ (c .if2 .taken))
+returns-2 c = at-closed _ _ _ (sofar (c .before .before .before)) (c .if2 .taken)
 
 returns-3 : tie.Need-returns-3 Inv-loop μ-loop
 returns-3 c = at-long _ _ _ (sofar (c .before .before .before .before)) (c .if3 .taken)

@@ -16,7 +16,8 @@ returns c f kind front =
     let same = c .refused-day .ensures in
     let e : f .fault ≡ fault (numberOf check) (placeOf check) = sym (front .fault) ∙ ap shown (found .1) in
     record {
-      header = ap (λ (d : Day). shown (d .header)) same ∙ sym e;
+      found = ap (λ (d : Day). shown (d .found)) same ∙ sym e;
+      header = ap (λ (d : Day). d .header) same ∙ front .header;
       count = ap (λ (d : Day). d .count) same ∙ front .hours;
       hours = ap (λ (d : Day). toldAll (d .hours)) same ∙ all-refused f check e (front .few);
       total = ap (λ (d : Day). toldTotal (d .total)) same ∙ total-withheld f check e (front .some);
@@ -29,7 +30,8 @@ returns-2 c f kind front =
     let e : f .fault ≡ clear = sym (front .fault) ∙ ap shown (told .enum-told .given .1) in
     let done = rw (front .hours) at (settled .ensures) in
     record {
-      header = front .fault;
+      found = front .fault;
+      header = front .header;
       count = front .hours;
       hours = replies-are f _ (sym kind) e _ (front .excluded) _ (front .body) (settled .result) done;
       total = total-is f _ (sym kind) e _ (front .excluded) _ (front .body) (settled .result) done;

@@ -10,9 +10,9 @@ requires c κs = let front = c .read-front .ensures in (front .inside, rw (front
 
 returns : tie.Need-returns
 returns c =
-    let s = c .before .before .before .args .sheet .now in
+    let s = c .before .before .before .args .text .now in
     let d = c .settle-behind .ensures (frontOf s) refl (c .before .read-front .ensures) in
-    (d .header, (d .count, (d .hours, d .total)))
+    (d .found, (d .header, (d .count, (d .hours, d .total))))
 
 pub settle-day-spec : {M : Type 1} → statement M
 settle-day-spec = tie.close (tie.spec (λ c κs. search needs) requires returns)

@@ -12,7 +12,7 @@ returns : tie.Need-returns
 returns c =
     let s = c .before .before .before .args .text .now in
     let d = c .settle-behind .ensures (iclFrontOf s) refl (c .before .read-icl-front .ensures) in
-    (d .header, (d .count, (d .hours, d .total)))
+    (d .found, (d .header, (d .count, (d .hours, d .total))))
 
 pub settle-icl-day-spec : {M : Type 1} → statement M
 settle-icl-day-spec = tie.close (tie.spec (λ c κs. search needs) requires returns)

@@ -1,4 +1,5 @@
-//! Reads a day sheet from standard input and prints each hour and the total.
+//! Reads the headers of three days and the blocks of the one between from
+//! standard input, and prints each hour and the total.
 
 use second::{console, day};
 

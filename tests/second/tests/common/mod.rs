@@ -5,6 +5,7 @@ pub mod line;
 
 use second::import::{CountedImportLine, ImportHour, ImportHourLine, ImportInterval, ImportLine};
 use second::record::{Kind, Record};
+use second::text::cut_block;
 use second::{hour, Answer, Ask, Curve, DayAhead, Header, HourRecord, Interval, Run, Way};
 
 /// The block of document 01's section "Programs".
@@ -118,6 +119,45 @@ pub fn printed(hours: usize, others: &[(usize, &str)], total: &str) -> String {
 pub fn day_of(header: &Header, hours: &[HourRecord]) -> String {
     let blocks: Vec<String> = hours.iter().map(closed).collect();
     header.to_text() + &blocks.concat()
+}
+
+/// A stored sheet as `day` reads it between these two headers: its own header,
+/// up to its empty line, stands in the middle, and its blocks behind all three.
+/// A sheet that ends within its header ends the text.
+pub fn between(before: &[u8], sheet: &[u8], after: &[u8]) -> Vec<u8> {
+    let behind = cut_block(sheet);
+    if !behind.closed {
+        return [before, sheet].concat();
+    }
+    let header = &sheet[..sheet.len() - behind.rest.len()];
+    [before, header, after, behind.rest].concat()
+}
+
+/// A stored sheet as `day` reads it where both neighbours lack.
+pub fn alone(sheet: &str) -> String {
+    let text = between(b"\n", sheet.as_bytes(), b"\n");
+    String::from_utf8(text).expect("an empty line stands on each side")
+}
+
+/// What `day` prints of a stored sheet without neighbours; and of a day of the
+/// same unit that has the sheet's header in front, behind, and on both sides.
+pub fn in_each_place(sheet: &[u8]) -> [String; 4] {
+    let header = &sheet[..sheet.len() - cut_block(sheet).rest.len()];
+    let lines = String::from_utf8_lossy(header).into_owned();
+    let unit = lines.lines().find_map(|line| line.strip_prefix("unit="));
+    let own = Header {
+        unit: unit.and_then(|unit| unit.parse().ok()).unwrap_or(1),
+        ..Header::default()
+    };
+    let own = day_of(&own, &one_cent_hours()).into_bytes();
+    let empty: &[u8] = b"\n";
+    [
+        between(empty, sheet, empty),
+        between(header, &own, empty),
+        between(empty, &own, header),
+        between(header, &own, header),
+    ]
+    .map(|text| second::day_text(&text))
 }
 
 /// 24 hours that pay nothing.

@@ -5,7 +5,6 @@ use mathlib.Core.List.{_++_}
 use Prim.Native.Nat.{_-_, _≤_}
 use native.Mathlib.Omega.{arith}
 use borrow.Author.Needs.{needs}
-use borrow.Author.Tests.{not-true}
 use lib.ListN.{length, take}
 use Rattle.intake.specs.Squeeze.{squeezedBy, squeezeAfter}
 use Rattle.intake.proofs.Squeezes.{coming, few, next-text, next-state, all-come, rest-stands}
@@ -32,7 +31,7 @@ returns c =
     let place = c .before .before .before in
     let n = place .before .before .args .n in
     let l = place .loop in
-    let e = rest-stands (l .state) (l .bytes) n (l .left) (l .at) (not-true _ (c .before .if1 .taken)) (c .if2 .taken) (omega arith) in
+    let e = rest-stands (l .state) (l .bytes) n (l .left) (l .at) (c .before .if1 .taken) (c .if2 .taken) (omega arith) in
     (counts _ _ (omega arith), (sym (l .inv .3 ∙ e .0), sym (l .inv .4 ∙ e .1)))
 
 add-left : tie.Need-add-left Inv-loop μ-loop
