@@ -12,7 +12,7 @@ use lib.IntN.{ℤ, pos}
 use lib.ListN.{length}
 use Rattle.exact.specs.Whole.{eqZ}
 use Rattle.exact.proofs.Apart.{impossible}
-use Rattle.exact.proofs.Parts.{by-test}
+use Rattle.exact.proofs.Parts.{by-test, eqZ-true}
 use Rattle.tariff.specs.Sheet.{SHORTEST-DAY, USUAL-DAY, LONGEST-DAY, isCount, liesIn}
 use Rattle.tariff.specs.Reply.{FORM, RANGE, BACK, Verdict, clear, fault, unless, _then_}
 use Rattle.tariff.proofs.Checks.{then-clear, then-first, then-second, unless-clear, unless-gives, unless-when, first-fault, Without, without-fault, without-unless, without-then}
@@ -22,7 +22,7 @@ use Rattle.header.specs.Layout.{linePlace, lineInRange, layoutForm, layoutRange
 use Rattle.header.specs.Header.{layoutBy, isForm2, formBy, countOf, layoutOf, hoursOf, headerFault}
 use Rattle.header.proofs.Forms.{one-number}
 use Rattle.header.proofs.HeaderLines.{isInRange, refused-first}
-use Rattle.header.proofs.HeaderCounts.{is-two, other-forms-are-usual-days}
+use Rattle.header.proofs.HeaderCounts.{other-forms-are-usual-days}
 use Rattle.archive.specs.declared.Way.{Way}
 use Rattle.archive.specs.declared.Way.the-variants.{Up, Down}
 use Rattle.archive.specs.Move.{goes, fits, moveFault, formFor, formSaid}
@@ -45,7 +45,7 @@ is-way Up two e = ap not e
 is-way Down two e = e
 
 wrong-said : (way : Way) (z : ℤ) → goes way (eqZ z (pos 2)) ≡ false → z ≡ formFor way → ⊥
-wrong-said Up z g e = let two : pos 1 ≡ pos 2 = sym e ∙ is-two z (not-false (eqZ z (pos 2)) g) in impossible cc
+wrong-said Up z g e = let two : pos 1 ≡ pos 2 = sym e ∙ eqZ-true z (pos 2) (not-false (eqZ z (pos 2)) g) in impossible cc
 wrong-said Down z g e = false≢true (sym g ∙ ap (λ (x : ℤ). eqZ x (pos 2)) e)
 
 -- ---- line 1, whose range has one number only

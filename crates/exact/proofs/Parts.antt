@@ -1,10 +1,10 @@
 -- What each operation and each test of ℤ says of the parts above and below zero, so that `omega` decides what is linear.
 use mathlib.Core.Path.{_≡_, refl, sym, _∙_, ap, subst}
-use mathlib.Core.Bool.{Bool, true, false, cond}
+use mathlib.Core.Bool.{Bool, true, false, cond, false≢true}
 use Prim.Native.Nat.{ℕ, zero, suc, _+_, _*_, _-_, _<_, _≤_, min, max}
 use native.Mathlib.Omega.{arith}
 use lib.Dec.{T, ltb, ltb→lt, lt→ltb, le→leb, leb→le}
-use borrow.Author.Tests.{ltb-true, ltb-false, leb-false, lt-ltb, le-ltb, le-leb, lt-leb, eq-eqb, ne-eqb}
+use borrow.Author.Tests.{ltb-true, ltb-false, leb-false, lt-ltb, le-ltb, le-leb, lt-leb, eq-eqb, ne-eqb, eqb-true}
 use lib.IntN.{ℤ, pos, negsuc, negℤ, subℕ, _+ℤ_, _-ℤ_, _*ℤ_, natAbs}
 use lib.Signed.{_≤ℤ_, _<ℤ_, leZ, ltZ}
 use Rattle.exact.proofs.Apart.{impossible}
@@ -148,6 +148,12 @@ true-eqZ (pos a) (pos b) e = eq-eqb a b (ap natAbs e)
 true-eqZ (pos a) (negsuc b) e = absurd (let z = eq-parts e in omega arith)
 true-eqZ (negsuc a) (pos b) e = absurd (let z = eq-parts e in omega arith)
 true-eqZ (negsuc a) (negsuc b) e = eq-eqb a b (let z = eq-parts e in omega arith)
+
+pub eqZ-true : (a b : ℤ) → eqZ a b ≡ true → a ≡ b
+eqZ-true (pos a) (pos b) e = ap pos (eqb-true a b e)
+eqZ-true (pos a) (negsuc b) e = absurd (false≢true e)
+eqZ-true (negsuc a) (pos b) e = absurd (false≢true e)
+eqZ-true (negsuc a) (negsuc b) e = ap negsuc (eqb-true a b e)
 
 pub false-eqZ : (a b : ℤ) → (a ≡ b → ⊥) → eqZ a b ≡ false
 false-eqZ (pos a) (pos b) h = ne-eqb a b (λ e. h (ap pos e))

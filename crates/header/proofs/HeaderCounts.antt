@@ -5,11 +5,10 @@ use mathlib.Core.Bool.{Bool, true, false, false≢true}
 use mathlib.Core.List.{List}
 use Prim.Native.Nat.{ℕ, zero, suc, _<_}
 use native.Mathlib.Omega.{arith}
-use borrow.Author.Tests.{eqb-true}
 use lib.Dec.{lit<}
-use lib.IntN.{ℤ, pos, negsuc}
+use lib.IntN.{pos}
 use lib.ListN.{length}
-use Rattle.exact.specs.Whole.{eqZ}
+use Rattle.exact.proofs.Parts.{eqZ-true}
 use Rattle.tariff.specs.Sheet.{USUAL-DAY, isCount, liesIn}
 use Rattle.tariff.specs.Reply.{RANGE, Verdict, clear, fault, _then_}
 use Rattle.text.specs.declared.Next.the-variants.{At}
@@ -20,10 +19,6 @@ use Rattle.header.specs.Layout.{linePlace, numberFrom, lineInRange, layo
 use Rattle.header.specs.Header.{form1, layoutBy, countBy, layoutIn, hoursIn, faultIn, isForm2, formOf, countOf, layoutOf, hoursOf, headerFault}
 use Rattle.header.proofs.HeaderLines.{isInRange, refused-first}
 use Rattle.header.proofs.Forms.{count-line, clear-counted}
-
-pub is-two : (z : ℤ) → eqZ z (pos 2) ≡ true → z ≡ pos 2
-is-two (pos n) e = ap pos (eqb-true n 2 e)
-is-two (negsuc n) e = absurd (false≢true e)
 
 lines-some : (form : Form) (judged : Bool) → 1 < length (layoutBy form judged)
 lines-some One judged = lit< tt
@@ -65,7 +60,7 @@ module _ (s : List ℕ) where
   unfolding lineInRange linePlace
   another-count-is-range two another =
       refused-at-2 (formOf s) s (form-apart (formOf s) (rw two))
-      (rw two (ap (liesIn (pos 2) (pos 2)) (is-two (numberFrom FORM-LINE s (At 0)) two)))
+      (rw two (ap (liesIn (pos 2) (pos 2)) (eqZ-true (numberFrom FORM-LINE s (At 0)) (pos 2) two)))
       another
 
   pub a-header-that-is-read-has-a-count : headerFault s ≡ clear → isCount (countOf s) ≡ true

@@ -13,8 +13,8 @@ use Rattle.tariff.specs.declared.Worth.{Worth}
 use Rattle.tariff.specs.declared.Worth.the-variants as worth
 use Rattle.tariff.specs.declared.Grains.{Grains}
 use Rattle.tariff.specs.Units.{centsOf}
-use Rattle.tariff.specs.Reply.{ORDER, Finding, Verdict, clear, fault, numberOf, placeOf, firstOf}
-use Rattle.tariff.specs.Import.{Spot, outside, inHour, putIn, importDayFault, paid, refused, importReplyBy, worthBy, worthTold}
+use Rattle.tariff.specs.Reply.{ORDER, Finding, Verdict, clear, fault, putIn, numberOf, placeOf, firstOf}
+use Rattle.tariff.specs.Import.{Spot, outside, inHour, importDayFault, paid, refused, importReplyBy, worthBy, worthTold}
 use Rattle.tariff.proofs.Checks.{never-clear, first-clear, FirstFault, fault-first}
 use Rattle.tariff.proofs.ImportGrains.{part-within}
 use Rattle.lines.specs.Cut.{behind}

@@ -7,8 +7,8 @@ use lib.IntN.{ℤ}
 use Rattle.exact.specs.Whole.{sumTo}
 use Rattle.exact.proofs.Sums.{sum-same}
 use Rattle.tariff.specs.Units.{centsOf}
-use Rattle.tariff.specs.Reply.{Finding, clear, fault}
-use Rattle.tariff.specs.Import.{Spot, inHour, putIn, importDayFault, paid, refused, importReplyBy}
+use Rattle.tariff.specs.Reply.{Finding, clear, fault, putIn}
+use Rattle.tariff.specs.Import.{Spot, inHour, importDayFault, paid, refused, importReplyBy}
 use Rattle.tariff.proofs.Checks.{first-same}
 use Rattle.tariff.proofs.Imports.{refused-when, import-rounded-once}
 use Rattle.lines.specs.Pieces.{restAfter, piece, isSome}

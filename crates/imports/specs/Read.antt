@@ -8,8 +8,8 @@ use Rattle.tariff.specs.declared.Check.{Check}
 use Rattle.tariff.specs.declared.Found.the-variants.{Fault}
 use Rattle.tariff.specs.declared.ImportHour.{ImportHour}
 use Rattle.tariff.specs.Units.{kw, price}
-use Rattle.tariff.specs.Reply.{FORM, Verdict, clear, fault, shown}
-use Rattle.tariff.specs.Import.{blankCurtailed, inHour, putIn, ImportReply, refused, otherwise, worthBy}
+use Rattle.tariff.specs.Reply.{FORM, Verdict, clear, fault, putIn, shown}
+use Rattle.tariff.specs.Import.{blankCurtailed, inHour, ImportReply, refused, otherwise, worthBy}
 use Rattle.lines.specs.Line.{placeIn}
 use Rattle.lines.specs.Told.{SeriesFound}
 use Rattle.imports.specs.declared.block.SeriesRead.{SeriesRead}

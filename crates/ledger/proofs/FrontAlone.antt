@@ -5,29 +5,30 @@ use mathlib.Core.List.{List, [], _∷_, _++_}
 use Prim.Native.Nat.{ℕ, zero, suc, _<_, _≤_}
 use mathlib.Core.Logic.{inl, inr, ⊎-elim}
 use native.Mathlib.Omega.{arith}
-use borrow.Author.Tests.{eqb-true}
-use lib.IntN.{ℤ, pos, negsuc}
 use Rattle.exact.specs.Choice.{if_then_else_}
 use Rattle.exact.specs.Whole.{eqZ}
-use Rattle.exact.proofs.Apart.{impossible}
-use Rattle.exact.proofs.Parts.{by-test, true-eqZ}
-use Rattle.tariff.specs.Reply.{RANGE, Verdict, clear, fault, unless}
+use Rattle.exact.proofs.Parts.{by-test, true-eqZ, eqZ-true}
+use Rattle.tariff.specs.Reply.{RANGE, Finding, Verdict, clear, fault, unless, _then_, putIn}
+use Rattle.tariff.proofs.Checks.{never-clear, then-clear, put-clear, unless-clear}
 use Rattle.text.specs.declared.Next.the-variants.{At}
 use Rattle.lines.specs.Cut.{emptyIn, behind}
 use Rattle.lines.specs.Pieces.{restAfter, firstPiece, piece}
 use Rattle.lines.proofs.Closed.{closed-first, closed-behind}
 use Rattle.header.specs.Header.{formOf, headerFault, unitOf, unitLine}
 use Rattle.header.proofs.HeaderBehind.{ends-empty}
-use Rattle.ledger.specs.Headers.{isLacking, neighbourFault, unitFault, Judged, inHeader, orElse, firstRefused}
+use Rattle.ledger.specs.Headers.{isLacking, neighbourFault, unitFault, HeaderLine, inHeader, headersFault, atLine}
 use Rattle.ledger.specs.Day.{frontOf}
 use Rattle.ledger.specs.Midnight.{Stands}
 use Rattle.ledger.proofs.AnyFront.{SameFront}
 use Rattle.ledger.proofs.SheetFront.{same-front, same-piece}
 
 -- ---- where none of the checks refuses, each is clear
-else-clear : (v : Verdict) (j rest : Judged) → j .fault ≡ v → orElse v j rest .fault ≡ clear → (v ≡ clear) × (rest .fault ≡ clear)
-else-clear clear j rest is e = (refl, e)
-else-clear (fault number place) j rest is e = impossible cc
+line-clear : (j : Finding HeaderLine) → atLine j ≡ clear → j ≡ clear
+line-clear clear e = refl
+line-clear (fault number (inHeader header line)) e = absurd (never-clear e)
+
+both-clear : (header : ℕ) (v : Verdict) (rest : Finding HeaderLine) → (putIn (inHeader header) v then rest) ≡ clear → (v ≡ clear) × (rest ≡ clear)
+both-clear header v rest e = let p = then-clear (putIn (inHeader header) v) rest e in (put-clear (inHeader header) v (p .0), p .1)
 
 pub record AllClear (before own after : List ℕ) : Type 0 where
   pub first : neighbourFault before ≡ clear
@@ -40,21 +41,16 @@ pub all-clear : (s : List ℕ) → frontOf s .fault ≡ clear → AllClear s (re
 all-clear s e =
     let own = restAfter 1 s in
     let after = restAfter 2 s in
-    let units = inHeader 0 (unitFault s own) ∷ inHeader 2 (unitFault after own) ∷ [] in
-    let a = else-clear (neighbourFault s) (inHeader 0 (neighbourFault s)) (firstRefused (inHeader 1 (headerFault own) ∷ inHeader 2 (neighbourFault after) ∷ units)) refl e in
-    let b = else-clear (headerFault own) (inHeader 1 (headerFault own)) (firstRefused (inHeader 2 (neighbourFault after) ∷ units)) refl (a .1) in
-    let c = else-clear (neighbourFault after) (inHeader 2 (neighbourFault after)) (firstRefused units) refl (b .1) in
-    let d = else-clear (unitFault s own) (inHeader 0 (unitFault s own)) (firstRefused (inHeader 2 (unitFault after own) ∷ [])) refl (c .1) in
-    let f = else-clear (unitFault after own) (inHeader 2 (unitFault after own)) (firstRefused []) refl (d .1) in
-    record { first = a .0; second = b .0; third = c .0; unit-before = d .0; unit-after = f .0 }
+    let last = putIn (inHeader 2) (unitFault after own) in
+    let units = putIn (inHeader 0) (unitFault s own) then last in
+    let behind-own = putIn (inHeader 2) (neighbourFault after) then units in
+    let a = both-clear 0 (neighbourFault s) (putIn (inHeader 1) (headerFault own) then behind-own) (line-clear (headersFault s own after) e) in
+    let b = both-clear 1 (headerFault own) behind-own (a .1) in
+    let c = both-clear 2 (neighbourFault after) units (b .1) in
+    let d = both-clear 0 (unitFault s own) last (c .1) in
+    record { first = a .0; second = b .0; third = c .0; unit-before = d .0; unit-after = put-clear (inHeader 2) (unitFault after own) (d .1) }
 
 -- ---- so a neighbour stands that no check refuses, and the other way round
-
-same-number : (a b : ℤ) → eqZ a b ≡ true → a ≡ b
-same-number (pos a) (pos b) e = ap pos (eqb-true a b e)
-same-number (pos a) (negsuc b) e = absurd (false≢true e)
-same-number (negsuc a) (pos b) e = absurd (false≢true e)
-same-number (negsuc a) (negsuc b) e = ap negsuc (eqb-true a b e)
 
 module _ (t own : List ℕ) where
   pub neighbour-stands : neighbourFault t ≡ clear → unitFault t own ≡ clear → Stands t own
@@ -62,13 +58,7 @@ module _ (t own : List ℕ) where
       by-test (isLacking t)
       (λ b. (if b then clear else headerFault t) ≡ clear → (if b then clear else unless (eqZ (unitOf t) (unitOf own)) RANGE (unitLine t)) ≡ clear → Stands t own)
       (λ l e u. inl l)
-      (λ l e u. inr (e, same-number (unitOf t) (unitOf own) (same u)))
-    where
-      same : unless (eqZ (unitOf t) (unitOf own)) RANGE (unitLine t) ≡ clear → eqZ (unitOf t) (unitOf own) ≡ true
-      same =
-          by-test (eqZ (unitOf t) (unitOf own)) (λ b. unless b RANGE (unitLine t) ≡ clear → b ≡ true)
-          (λ e u. refl)
-          (λ e u. impossible cc)
+      (λ l e u. inr (e, eqZ-true (unitOf t) (unitOf own) (unless-clear (eqZ (unitOf t) (unitOf own)) RANGE (unitLine t) u)))
 
   pub stands-clear : Stands t own → (neighbourFault t ≡ clear) × (unitFault t own ≡ clear)
   stands-clear =

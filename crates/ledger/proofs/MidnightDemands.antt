@@ -11,7 +11,7 @@ use lib.IntN.{pos}
 use Rattle.tariff.specs.declared.MarkedDay.{MarkedDay}
 use Rattle.tariff.specs.declared.Expected.the-variants.{Says}
 use Rattle.tariff.specs.Sheet.{isCount}
-use Rattle.tariff.specs.Reply.{RANGE, Verdict, clear, fault}
+use Rattle.tariff.specs.Reply.{RANGE, clear, fault}
 use Rattle.tariff.specs.Eligible.{near, excluded}
 use Rattle.keys.specs.Keys.{UNIT-LINE}
 use Rattle.marks.specs.Alone.{excludedAlone}
@@ -25,7 +25,7 @@ use Rattle.lines.specs.Pieces.{restAfter, firstPiece, OnePiece}
 use Rattle.header.specs.Layout.{lineOf}
 use Rattle.header.specs.Header.{layoutBy, isForm2, formBy, countOf, hoursOf, headerFault, unitLine}
 use Rattle.header.proofs.Forms.{unit-line}
-use Rattle.ledger.specs.Headers.{isLacking, daySaid, neighbourOf, neighbourFault, Judged, inHeader, orElse, headersFault}
+use Rattle.ledger.specs.Headers.{isLacking, daySaid, neighbourOf, neighbourFault, headersFault, atLine, whichHeader}
 use Rattle.ledger.specs.Day.{generatorAnswer, frontOf, dayReply}
 use Rattle.ledger.specs.Demand.{SettledAlike}
 use Rattle.ledger.specs.Stored.{lacking, dayInput}
@@ -49,7 +49,7 @@ a-day-is-read-exactly-when-its-headers-stand s =
       λ w.
           let b = stands-clear s own (w .1) in
           let a = stands-clear after own (w .2) in
-          ap (λ (j : Judged). j .fault) (none-refuses s own after (b .0) (w .0) (a .0) (b .1) (a .1)),
+          ap atLine (none-refuses s own after (b .0) (w .0) (a .0) (b .1) (a .1)),
     )
 
 -- Else the first header that is at fault refuses it, in the order read, with its number and place; a neighbour that is lacking has no fault.
@@ -165,15 +165,15 @@ pub three-stored-sheets-make-one-input :
     → OnePiece before
     → OnePiece after
     → headerFault sheet ≡ clear
-    → (frontOf (dayInput before sheet after) .fault ≡ headersFault before sheet after .fault)
-    × (frontOf (dayInput before sheet after) .header ≡ headersFault before sheet after .header)
+    → (frontOf (dayInput before sheet after) .fault ≡ atLine (headersFault before sheet after))
+    × (frontOf (dayInput before sheet after) .header ≡ whichHeader (headersFault before sheet after))
     × (frontOf (dayInput before sheet after) .hours ≡ hoursOf sheet)
     × ((k : ℕ) → frontOf (dayInput before sheet after) .isExcluded k ≡ excluded (neighbourOf before) (daySaid sheet) (neighbourOf after) k)
     × (frontOf (dayInput before sheet after) .body ≡ behind sheet)
 three-stored-sheets-make-one-input before sheet after b a read =
     let judged = stored-judged before sheet after b a read in (
-      ap (λ (j : Judged). j .fault) judged,
-      ap (λ (j : Judged). j .header) judged,
+      ap atLine judged,
+      ap whichHeader judged,
       stored-hours before sheet after b a read,
       stored-excluded before sheet after b a read,
       stored-blocks before sheet after b a read,
@@ -199,7 +199,7 @@ pub a-stored-sheet-alone-is-answered-as-before :
 a-stored-sheet-alone-is-answered-as-before sheet read =
     let one = an-empty-line-is-one-piece in
     let input = three-stored-sheets-make-one-input lacking sheet lacking one one read in
-    let fault = input .0 ∙ ap (λ (v : Verdict). orElse v (inHeader 1 v) (inHeader 0 clear) .fault) read in (
+    let fault = input .0 ∙ ap atLine (none-refuses lacking sheet lacking refl read refl refl refl) in (
       fault,
       input .2,
       λ k.

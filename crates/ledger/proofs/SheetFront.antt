@@ -1,7 +1,7 @@
 -- The front of what `day` reads is three headers: what the code reads of it, and that their own bytes decide it, and what is kept of them.
 use mathlib.Core.Path.{_≡_, refl, sym, ap, _∙_, subst}
 use mathlib.Core.Bool.{Bool, true}
-use mathlib.Core.List.{List, [], _∷_}
+use mathlib.Core.List.{List}
 use Prim.Native.Nat.{ℕ, zero, suc, _+_, _≤_, _<_}
 use native.Mathlib.Omega.{arith}
 use lib.Dec.{eqb}
@@ -38,10 +38,11 @@ use Rattle.header.proofs.HeaderFirst.{same-first}
 use Rattle.header.proofs.HeaderLocal.{piece-header, bytes-header}
 use Rattle.ledger.specs.declared.heads.Head.{Head}
 use Rattle.ledger.specs.declared.heads.Judged.{Judged}
-use Rattle.ledger.specs.Headers.{isLacking, daySaid, neighbourOf, neighbourFault, unitFault, inHeader, firstRefused, headersFault}
+use Rattle.ledger.specs.Headers.{isLacking, daySaid, neighbourOf, neighbourFault, unitFault, headersFault, atLine, whichHeader}
 use Rattle.ledger.specs.Day.{generatorAnswer, frontOf}
 use Rattle.ledger.specs.Walk.{OwnRead, NeighbourRead, JudgedAs, FrontRead}
 use Rattle.ledger.proofs.AnyFront.{SameFront, FrontLaws}
+use Rattle.ledger.proofs.ThreeHeads.{judgedBy}
 
 -- ---- what the code reads of it
 
@@ -106,12 +107,7 @@ module _ {s t : List ℕ} (o : SameHead s t) where
 pub headers-same : {s t own other after later : List ℕ} → SameHead s t → SameHead own other → SameHead after later
     → headersFault s own after ≡ headersFault t other later
 headers-same b o a =
-    let first = fault-same b in
-    let second = o .said .fault in
-    let third = fault-same a in
-    let unit-before = unit-same b (o .said) in
-    let unit-after = unit-same a (o .said) in
-    λ i. firstRefused (inHeader 0 (first i) ∷ inHeader 1 (second i) ∷ inHeader 2 (third i) ∷ inHeader 0 (unit-before i) ∷ inHeader 2 (unit-after i) ∷ [])
+    λ i. judgedBy (fault-same b i) (o .said .fault i) (fault-same a i) (unit-same b (o .said) i) (unit-same a (o .said) i)
 
 pub same-front : (s t : List ℕ) → ((k : ℕ) → k < 3 → SameHead (restAfter k s) (restAfter k t)) → SameFront (frontOf s) (frontOf t)
 unfolding restAfter
@@ -121,8 +117,8 @@ same-front s t heads =
     let a = heads 2 (omega arith) in
     let judged = headers-same b o a in
     record {
-      fault = λ i. judged i .fault;
-      header = λ i. judged i .header;
+      fault = ap atLine judged;
+      header = ap whichHeader judged;
       hours = o .said .hours;
       isExcluded = λ k u i. excluded (neighbour-same b i) (day-same (o .said) i) (neighbour-same a i) k;
     }

@@ -1,7 +1,7 @@
 -- Stored sheets that say the same of their day may stand for each other: as the day itself, and as a neighbour of the day's own unit.
 use mathlib.Core.Path.{_≡_, refl, sym, ap, _∙_}
 use mathlib.Core.Bool.{Bool}
-use mathlib.Core.List.{List, [], _∷_}
+use mathlib.Core.List.{List}
 use mathlib.Core.Logic.{inr}
 use Prim.Native.Nat.{ℕ}
 use borrow.Author.Tests.{ne-eqb}
@@ -18,11 +18,12 @@ use Rattle.lines.specs.Pieces.{restAfter, firstPiece, OnePiece}
 use Rattle.lines.proofs.Closed.{one-itself}
 use Rattle.header.specs.Header.{formOf, countOf, headerFault, unitOf, unitLine}
 use Rattle.header.proofs.HeaderBehind.{not-empty}
-use Rattle.ledger.specs.Headers.{isLacking, daySaid, neighbourOf, neighbourFault, unitFault, Judged, inHeader, firstRefused, headersFault}
+use Rattle.ledger.specs.Headers.{isLacking, daySaid, neighbourOf, neighbourFault, unitFault, headersFault, atLine, whichHeader}
 use Rattle.ledger.specs.Day.{frontOf}
 use Rattle.ledger.specs.Demand.{SettledAlike}
 use Rattle.ledger.specs.Stored.{dayInput}
 use Rattle.ledger.proofs.AnyFront.{same-settled}
+use Rattle.ledger.proofs.ThreeHeads.{judgedBy}
 use Rattle.ledger.proofs.SheetFront.{SameHead, same-piece, neighbour-same}
 use Rattle.ledger.proofs.FrontAlone.{stands-clear}
 use Rattle.ledger.proofs.StoredDays.{header-piece, stored-blocks, stored-judged, stored-hours, stored-excluded}
@@ -43,8 +44,8 @@ module _ (before sheet after before′ sheet′ after′ : List ℕ) (b : OnePie
   parts-settled judged day early late blocks =
       same-settled _ _
       (record {
-        fault = ap (λ (j : Judged). j .fault) same;
-        header = ap (λ (j : Judged). j .header) same;
+        fault = ap atLine same;
+        header = ap whichHeader same;
         hours =
             stored-hours before sheet after b a read
             ∙ ap (λ (d : MarkedDay). d .hours) day
@@ -73,14 +74,7 @@ pub own-exchanged : (before after s t : List ℕ) → OnePiece before → OnePie
 own-exchanged before after s t b a o blocks =
     let read = o .one-read ∙ sym (o .other-read) in
     parts-settled before s after before t after b a (o .one-read) b a (o .other-read)
-    (λ i.
-    firstRefused
-    (inHeader 0 (neighbourFault before)
-    ∷ inHeader 1 (read i)
-    ∷ inHeader 2 (neighbourFault after)
-    ∷ inHeader 0 (unitBy before (o .unit i))
-    ∷ inHeader 2 (unitBy after (o .unit i))
-    ∷ []))
+    (λ i. judgedBy (neighbourFault before) (read i) (neighbourFault after) (unitBy before (o .unit i)) (unitBy after (o .unit i)))
     (o .day) refl refl blocks
 
 -- ---- as a neighbour: its header is read, so that it is not lacking, and it is of the day's unit
@@ -114,26 +108,12 @@ module _ (sheet s t : List ℕ) (read : headerFault sheet ≡ clear) (o : SameSh
       → SettledAlike (frontOf (dayInput (firstPiece s) sheet after)) (frontOf (dayInput (firstPiece t) sheet after))
   before-exchanged after a =
       parts-settled (firstPiece s) sheet after (firstPiece t) sheet after (header-piece s (o .one-read)) a read (header-piece t (o .other-read)) a read
-      (λ i.
-      firstRefused
-      (inHeader 0 (header i)
-      ∷ inHeader 1 (headerFault sheet)
-      ∷ inHeader 2 (neighbourFault after)
-      ∷ inHeader 0 (of-unit i)
-      ∷ inHeader 2 (unitFault after sheet)
-      ∷ []))
+      (λ i. judgedBy (header i) (headerFault sheet) (neighbourFault after) (of-unit i) (unitFault after sheet))
       refl day refl refl
 
   pub after-exchanged : (before : List ℕ) → OnePiece before
       → SettledAlike (frontOf (dayInput before sheet (firstPiece s))) (frontOf (dayInput before sheet (firstPiece t)))
   after-exchanged before b =
       parts-settled before sheet (firstPiece s) before sheet (firstPiece t) b (header-piece s (o .one-read)) read b (header-piece t (o .other-read)) read
-      (λ i.
-      firstRefused
-      (inHeader 0 (neighbourFault before)
-      ∷ inHeader 1 (headerFault sheet)
-      ∷ inHeader 2 (header i)
-      ∷ inHeader 0 (unitFault before sheet)
-      ∷ inHeader 2 (of-unit i)
-      ∷ []))
+      (λ i. judgedBy (neighbourFault before) (headerFault sheet) (header i) (unitFault before sheet) (of-unit i))
       refl refl day refl

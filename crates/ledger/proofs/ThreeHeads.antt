@@ -1,16 +1,16 @@
 -- The three headers as the code reads them: one by one, whether a neighbour is of another unit, and which of them refuses.
 use mathlib.Core.Path.{_≡_, refl, sym, ap, _∙_, subst}
 use mathlib.Core.Bool.{Bool, true, false, not, _&&_, false≢true}
-use mathlib.Core.List.{List, [], _∷_}
+use mathlib.Core.List.{List}
 use Prim.Native.Nat.{ℕ}
 use Rattle.exact.specs.Choice.{if_then_else_}
 use Rattle.exact.specs.Whole.{eqZ}
-use Rattle.tariff.specs.Reply.{RANGE, Verdict, clear, fault, unless, shown}
+use Rattle.tariff.specs.Reply.{RANGE, Finding, Verdict, clear, fault, unless, _then_, putIn, shown}
 use Rattle.tariff.specs.Eligible.{noDay}
 use Rattle.header.specs.Header.{hoursOf, headerFault, unitOf, unitLine, marksUnder, unitUnder}
 use Rattle.ledger.specs.declared.heads.Head.{Head}
-use Rattle.ledger.specs.declared.heads.Judged as code
-use Rattle.ledger.specs.Headers.{isLacking, daySaid, neighbourFault, unitFault, Judged, inHeader, firstRefused, headersFault}
+use Rattle.ledger.specs.declared.heads.Judged.{Judged}
+use Rattle.ledger.specs.Headers.{isLacking, daySaid, neighbourFault, unitFault, HeaderLine, inHeader, headersFault, atLine, whichHeader}
 use Rattle.ledger.specs.Walk.{OwnRead, NeighbourRead, JudgedAs}
 
 -- ---- a header that is read, and one that is lacking
@@ -70,34 +70,34 @@ unit-judged t own n o reads owns read clears other says = go (isLacking t) refl
 -- ---- which header refuses
 
 -- by the five checks
-abbrev judgedBy : (before own after unit-before unit-after : Verdict) → Judged
+abbrev pub judgedBy : (before own after unit-before unit-after : Verdict) → Finding HeaderLine
 judgedBy before own after unit-before unit-after =
-    firstRefused (inHeader 0 before ∷ inHeader 1 own ∷ inHeader 2 after ∷ inHeader 0 unit-before ∷ inHeader 2 unit-after ∷ [])
+    putIn (inHeader 0) before then putIn (inHeader 1) own then putIn (inHeader 2) after then putIn (inHeader 0) unit-before then putIn (inHeader 2) unit-after
 
 module _ (b o a : List ℕ) where
-  pub judged-as : (r : code.Judged) {header : ℕ} {v : Verdict} → headersFault b o a ≡ inHeader header v → shown (r .found) ≡ v → r .header ≡ header
+  pub judged-as : (r : Judged) {j : Finding HeaderLine} → headersFault b o a ≡ j → shown (r .found) ≡ atLine j → r .header ≡ whichHeader j
       → JudgedAs (headersFault b o a) r
-  judged-as r e found which = subst (λ (j : Judged). JudgedAs j r) (sym e) (record { fault = found; header = which })
+  judged-as r e found which = subst (λ (j : Finding HeaderLine). JudgedAs j r) (sym e) (record { fault = found; header = which })
 
   module _ {number place : ℕ} where
-    pub before-refuses : neighbourFault b ≡ fault number place → headersFault b o a ≡ inHeader 0 (fault number place)
+    pub before-refuses : neighbourFault b ≡ fault number place → headersFault b o a ≡ fault number (inHeader 0 place)
     before-refuses e = λ i. judgedBy (e i) (headerFault o) (neighbourFault a) (unitFault b o) (unitFault a o)
 
     module _ (first : neighbourFault b ≡ clear) where
-      pub own-refuses : headerFault o ≡ fault number place → headersFault b o a ≡ inHeader 1 (fault number place)
+      pub own-refuses : headerFault o ≡ fault number place → headersFault b o a ≡ fault number (inHeader 1 place)
       own-refuses e = λ i. judgedBy (first i) (e i) (neighbourFault a) (unitFault b o) (unitFault a o)
 
       module _ (second : headerFault o ≡ clear) where
-        pub after-refuses : neighbourFault a ≡ fault number place → headersFault b o a ≡ inHeader 2 (fault number place)
+        pub after-refuses : neighbourFault a ≡ fault number place → headersFault b o a ≡ fault number (inHeader 2 place)
         after-refuses e = λ i. judgedBy (first i) (second i) (e i) (unitFault b o) (unitFault a o)
 
         module _ (third : neighbourFault a ≡ clear) where
-          pub unit-before-refuses : unitFault b o ≡ fault number place → headersFault b o a ≡ inHeader 0 (fault number place)
+          pub unit-before-refuses : unitFault b o ≡ fault number place → headersFault b o a ≡ fault number (inHeader 0 place)
           unit-before-refuses e = λ i. judgedBy (first i) (second i) (third i) (e i) (unitFault a o)
 
-          pub unit-after-refuses : unitFault b o ≡ clear → unitFault a o ≡ fault number place → headersFault b o a ≡ inHeader 2 (fault number place)
+          pub unit-after-refuses : unitFault b o ≡ clear → unitFault a o ≡ fault number place → headersFault b o a ≡ fault number (inHeader 2 place)
           unit-after-refuses fourth e = λ i. judgedBy (first i) (second i) (third i) (fourth i) (e i)
 
   pub none-refuses : neighbourFault b ≡ clear → headerFault o ≡ clear → neighbourFault a ≡ clear → unitFault b o ≡ clear → unitFault a o ≡ clear
-      → headersFault b o a ≡ inHeader 0 clear
+      → headersFault b o a ≡ clear
   none-refuses first second third fourth fifth = λ i. judgedBy (first i) (second i) (third i) (fourth i) (fifth i)

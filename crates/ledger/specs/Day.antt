@@ -13,7 +13,7 @@ use Rattle.lines.specs.Pieces.{restAfter, isSome}
 use Rattle.blocks.specs.Block.{blockOf}
 use Rattle.sheet.specs.Settle.{replyTo}
 use Rattle.header.specs.Header.{hoursOf}
-use Rattle.ledger.specs.Headers.{daySaid, neighbourOf, headersFault}
+use Rattle.ledger.specs.Headers.{daySaid, neighbourOf, headersFault, atLine, whichHeader}
 
 -- ---- how a block is answered: by its text, whether its hour is excluded, and the hour that it has to say
 
@@ -44,8 +44,8 @@ frontOf s =
     let after = restAfter 2 s in
     let judged = headersFault before own after in
     record {
-      fault = judged .fault;
-      header = judged .header;
+      fault = atLine judged;
+      header = whichHeader judged;
       hours = hoursOf own;
       isExcluded = excluded (neighbourOf before) (daySaid own) (neighbourOf after);
       body = restAfter 3 s;

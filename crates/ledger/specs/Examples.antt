@@ -3,14 +3,14 @@ use mathlib.Core.Path.{_≡_, refl}
 use mathlib.Core.List.{List, [], _++_}
 use Prim.Native.Nat.{ℕ, _+_, _^_}
 use lib.ListN.{replicate}
-use Rattle.tariff.specs.Reply.{clear, fault}
+use Rattle.tariff.specs.Reply.{Finding, clear, fault}
 use Rattle.tariff.specs.Eligible.{someTo, excluded}
 use Rattle.text.specs.Text.{ZERO, bytes}
 use Rattle.marks.specs.Word.{word}
 use Rattle.lines.specs.Cut.{emptyIn, behind}
 use Rattle.lines.specs.Pieces.{restAfter}
 use Rattle.header.specs.Examples.{judged}
-use Rattle.ledger.specs.Headers.{Judged, inHeader, headersFault}
+use Rattle.ledger.specs.Headers.{HeaderLine, inHeader, headersFault}
 use Rattle.ledger.specs.Day.{frontOf}
 use Rattle.ledger.specs.Stored.{lacking}
 
@@ -36,7 +36,7 @@ abbrev plain : List ℕ
 plain = form1 (bytes "7") (bytes "0") (zeros 24) (zeros 24)
 
 -- which header refuses, and for what; and the excluded hours of a day of 24
-abbrev refusal : List ℕ → Judged
+abbrev refusal : List ℕ → Finding HeaderLine
 refusal s = headersFault s (restAfter 1 s) (restAfter 2 s)
 
 unfoldable excludedIn : List ℕ → ℕ
@@ -45,7 +45,7 @@ excludedIn s = word 24 (frontOf s .isExcluded)
 
 -- ---- the marks
 
-alone : (refusal (lacking ++ plain ++ lacking) ≡ inHeader 0 clear) × (excludedIn (lacking ++ plain ++ lacking) ≡ 0)
+alone : (refusal (lacking ++ plain ++ lacking) ≡ clear) × (excludedIn (lacking ++ plain ++ lacking) ≡ 0)
 unfolding excludedIn
 alone = (refl, refl)
 
@@ -72,29 +72,29 @@ own-rtc = (refl, refl)
 
 -- ---- what refuses
 
-nothing : refusal [] ≡ inHeader 0 (fault 1 1)
+nothing : refusal [] ≡ fault 1 (inHeader 0 1)
 unfolding excludedIn
 nothing = refl
 
 -- an empty line where its own header should stand, and the end of input where the day after's should
-own-empty : refusal (lacking ++ lacking ++ lacking) ≡ inHeader 1 (fault 1 1)
+own-empty : refusal (lacking ++ lacking ++ lacking) ≡ fault 1 (inHeader 1 1)
 unfolding excludedIn
 own-empty = refl
 
-after-missing : refusal (lacking ++ plain) ≡ inHeader 2 (fault 1 1)
+after-missing : refusal (lacking ++ plain) ≡ fault 1 (inHeader 2 1)
 unfolding excludedIn
 after-missing = refl
 
 -- RANGE in the day before comes before FORM in its own
-in-the-order-read : refusal (form1 (bytes "0") (bytes "0") (zeros 24) (zeros 24) ++ bytes "form\n\n" ++ lacking) ≡ inHeader 0 (fault 2 2)
+in-the-order-read : refusal (form1 (bytes "0") (bytes "0") (zeros 24) (zeros 24) ++ bytes "form\n\n" ++ lacking) ≡ fault 2 (inHeader 0 2)
 unfolding excludedIn
 in-the-order-read = refl
 
 -- units come last, the day before first: at line 3 of form 2, and at line 2 of form 1
-other-before : refusal (form2 (bytes "8") (bytes "0") (zeros 25) (zeros 25) ++ plain ++ form1 (bytes "9") (bytes "0") (zeros 24) (zeros 24)) ≡ inHeader 0 (fault 2 3)
+other-before : refusal (form2 (bytes "8") (bytes "0") (zeros 25) (zeros 25) ++ plain ++ form1 (bytes "9") (bytes "0") (zeros 24) (zeros 24)) ≡ fault 2 (inHeader 0 3)
 unfolding excludedIn
 other-before = refl
 
-other-after : refusal (lacking ++ plain ++ form1 (bytes "9") (bytes "0") (zeros 24) (zeros 24)) ≡ inHeader 2 (fault 2 2)
+other-after : refusal (lacking ++ plain ++ form1 (bytes "9") (bytes "0") (zeros 24) (zeros 24)) ≡ fault 2 (inHeader 2 2)
 unfolding excludedIn
 other-after = refl

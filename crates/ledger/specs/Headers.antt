@@ -1,13 +1,13 @@
 -- What stands in front of a day's blocks: three headers, of the day before, its own and of the day after, each a piece that its empty line closes. A
 -- neighbour that is lacking is one empty line.
 use mathlib.Core.Bool.{Bool}
-use mathlib.Core.List.{List, [], _∷_}
+use mathlib.Core.List.{List}
 use Prim.Native.Nat.{ℕ}
 use lib.Dec.{eqb}
 use Rattle.exact.specs.Choice.{if_then_else_}
 use Rattle.exact.specs.Whole.{eqZ}
 use Rattle.tariff.specs.declared.MarkedDay.{MarkedDay}
-use Rattle.tariff.specs.Reply.{RANGE, Verdict, clear, fault, unless}
+use Rattle.tariff.specs.Reply.{RANGE, Finding, Verdict, clear, fault, unless, _then_, putIn}
 use Rattle.tariff.specs.Eligible.{noDay}
 use Rattle.text.specs.Text.{LF, byteAt}
 use Rattle.header.specs.Header.{hoursOf, headerFault, unitOf, unitLine, marksUnder}
@@ -33,30 +33,24 @@ neighbourFault s = if isLacking s then clear else headerFault s
 abbrev pub unitFault : (neighbour own : List ℕ) → Verdict
 unitFault neighbour own = if isLacking neighbour then clear else unless (eqZ (unitOf neighbour) (unitOf own)) RANGE (unitLine neighbour)
 
--- a check of one of the three: 0 is the day before, 1 the day itself, 2 the day after
-pub record Judged : Type 0 where
-  pub header : ℕ
-  pub fault : Verdict
-
-abbrev pub inHeader : ℕ → Verdict → Judged
-inHeader header v = record { header = header; fault = v }
-
--- the first that refuses; where none does, the number says nothing
-abbrev pub orElse : Verdict → Judged → Judged → Judged
-orElse clear j rest = rest
-orElse (fault number place) j rest = j
-
-abbrev pub firstRefused : List Judged → Judged
-firstRefused [] = inHeader 0 clear
-firstRefused (j ∷ rest) = orElse (j .fault) j (firstRefused rest)
+-- a line of one of the three: header 0 is the day before's, 1 the day's own, 2 the day after's
+pub data HeaderLine : Type 0 where
+  inHeader : (header line : ℕ) → HeaderLine
 
 -- each header in the order read; then the units, the day before first
-abbrev pub headersFault : (before own after : List ℕ) → Judged
+abbrev pub headersFault : (before own after : List ℕ) → Finding HeaderLine
 headersFault before own after =
-    firstRefused
-    (inHeader 0 (neighbourFault before)
-    ∷ inHeader 1 (headerFault own)
-    ∷ inHeader 2 (neighbourFault after)
-    ∷ inHeader 0 (unitFault before own)
-    ∷ inHeader 2 (unitFault after own)
-    ∷ [])
+    putIn (inHeader 0) (neighbourFault before)
+    then putIn (inHeader 1) (headerFault own)
+    then putIn (inHeader 2) (neighbourFault after)
+    then putIn (inHeader 0) (unitFault before own)
+    then putIn (inHeader 2) (unitFault after own)
+
+-- a fault at its line, and which header that line is in; where none refuses, the number says nothing
+abbrev pub atLine : Finding HeaderLine → Verdict
+atLine clear = clear
+atLine (fault number (inHeader header line)) = fault number line
+
+abbrev pub whichHeader : Finding HeaderLine → ℕ
+whichHeader clear = 0
+whichHeader (fault number (inHeader header line)) = header

@@ -13,7 +13,7 @@ use Rattle.tariff.specs.declared.Found.the-variants.{Fault}
 use Rattle.tariff.specs.declared.Total.the-variants.{Withheld}
 use Rattle.tariff.specs.Units.{centsOf}
 use Rattle.tariff.specs.Sheet.{LONGEST-DAY}
-use Rattle.tariff.specs.Reply.{Reply, paid, refused, FORM, clear, otherwise, shown}
+use Rattle.tariff.specs.Reply.{Reply, paid, refused, FORM, Finding, clear, otherwise, shown}
 use Rattle.tariff.specs.Eligible.{marked}
 use Rattle.tariff.specs.Total.{Sum, total, _plus_, toldTotal, toldAll}
 use Rattle.marks.specs.Word.{word}
@@ -22,11 +22,11 @@ use Rattle.header.specs.Header.{headerFault, unitOf, unitLine}
 use Rattle.ledger.specs.declared.Day.{Day}
 use Rattle.ledger.specs.declared.front.Front as code
 use Rattle.ledger.specs.declared.heads.Head.{Head}
-use Rattle.ledger.specs.declared.heads.Judged as code-judged
+use Rattle.ledger.specs.declared.heads.Judged.{Judged}
 use Rattle.ledger.specs.declared.hours.Settled.{Settled}
 use Rattle.ledger.specs.declared.hours.Kind.{Kind}
 use Rattle.ledger.specs.declared.hours.Kind.the-variants.{Generator, Icl}
-use Rattle.ledger.specs.Headers.{isLacking, daySaid, neighbourOf, neighbourFault, Judged}
+use Rattle.ledger.specs.Headers.{isLacking, daySaid, neighbourOf, neighbourFault, HeaderLine, atLine, whichHeader}
 use Rattle.ledger.specs.Day.{BlockAnswer, generatorAnswer, Front, dayReply, dayTotal}
 use Rattle.ledger.specs.IclDay.{iclAnswer}
 
@@ -47,9 +47,9 @@ pub record NeighbourRead (s : List ℕ) (r : Head) : Type 0 where
   pub line : isLacking s ≡ false → r .line ≡ unitLine s
 
 -- which of them refuses
-pub record JudgedAs (j : Judged) (r : code-judged.Judged) : Type 0 where
-  pub fault : shown (r .found) ≡ j .fault
-  pub header : r .header ≡ j .header
+pub record JudgedAs (j : Finding HeaderLine) (r : Judged) : Type 0 where
+  pub fault : shown (r .found) ≡ atLine j
+  pub header : r .header ≡ whichHeader j
 
 -- ---- the front of a day: its fault and which header has it, how many hours it has, a bit for each that is excluded, and the place of the first block
 

@@ -8,7 +8,7 @@ use native.Mathlib.Decide.{decLt}
 use native.Mathlib.Omega.{arith}
 use lib.IntN.{ℤ}
 use Rattle.exact.proofs.Apart.{impossible}
-use Rattle.tariff.specs.Reply.{Reply, paid, refused, Finding, Verdict, clear, fault, unless, _then_, otherwise, firstOf}
+use Rattle.tariff.specs.Reply.{Reply, paid, refused, Finding, Verdict, clear, fault, unless, _then_, putIn, otherwise, firstOf}
 
 -- ---- two checks, one after the other
 
@@ -18,6 +18,10 @@ never-clear e = impossible cc
 pub then-clear : {Place : Type 0} (v w : Finding Place) → (v then w) ≡ clear → (v ≡ clear) × (w ≡ clear)
 then-clear clear w e = (refl, e)
 then-clear (fault number place) w e = absurd (never-clear e)
+
+pub put-clear : {Place : Type 0} (spot : ℕ → Place) (v : Verdict) → putIn spot v ≡ clear → v ≡ clear
+put-clear spot clear e = refl
+put-clear spot (fault number place) e = absurd (never-clear e)
 
 pub unless-clear : {Place : Type 0} (b : Bool) (number : ℕ) (place : Place) → unless b number place ≡ clear → b ≡ true
 unless-clear true number place e = refl

@@ -8,16 +8,12 @@ use Rattle.exact.specs.Whole.{sumTo}
 use Rattle.exact.proofs.Apart.{impossible}
 use Rattle.exact.proofs.Calls.{passes, fails}
 use Rattle.tariff.specs.Units.{centsOf}
-use Rattle.tariff.specs.Reply.{ORDER, Finding, Verdict, clear, fault, unless, _then_, firstOf}
-use Rattle.tariff.specs.Import.{Spot, outside, inHour, putIn, importDayFault, paid, refused, importReplyBy}
+use Rattle.tariff.specs.Reply.{ORDER, Finding, Verdict, clear, fault, unless, _then_, putIn, firstOf}
+use Rattle.tariff.specs.Import.{Spot, outside, inHour, importDayFault, paid, refused, importReplyBy}
 use Rattle.tariff.specs.ImportDemand.{FirstRefused}
-use Rattle.tariff.proofs.Checks.{never-clear, then-clear, then-first, then-second, unless-clear, unless-gives, first-clear, clear-first, FirstFault, first-fault, fault-first}
+use Rattle.tariff.proofs.Checks.{never-clear, then-clear, put-clear, then-first, then-second, unless-clear, unless-gives, first-clear, clear-first, FirstFault, first-fault, fault-first}
 
 -- ---- what some lines find, and its spot
-
-put-clear : (spot : ℕ → Spot) (v : Verdict) → putIn spot v ≡ clear → v ≡ clear
-put-clear spot clear e = refl
-put-clear spot (fault number place) e = absurd (never-clear e)
 
 put-fault : (spot : ℕ → Spot) (v : Verdict) (number : ℕ) (at : Spot) → putIn spot v ≡ fault number at
     → (place : ℕ) × (v ≡ fault number place) × (spot place ≡ at)

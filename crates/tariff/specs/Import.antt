@@ -17,7 +17,7 @@ use Rattle.tariff.specs.declared.ImportAnswer.{ImportAnswer}
 use Rattle.tariff.specs.declared.ImportAnswer.the-variants as answer
 use Rattle.tariff.specs.Units.{kw, price, seconds, centsOf}
 use Rattle.tariff.specs.Sheet.{isMark, isSeconds, isHour, isCapacity, isPrice}
-use Rattle.tariff.specs.Reply.{FORM, RANGE, ORDER, SECONDS, Finding, Verdict, clear, fault, unless, _then_, firstOf, numberOf, placeOf}
+use Rattle.tariff.specs.Reply.{FORM, RANGE, ORDER, SECONDS, Finding, Verdict, clear, fault, unless, _then_, putIn, firstOf, numberOf, placeOf}
 
 -- ---- ranges: power as capacities, all prices alike
 
@@ -82,11 +82,6 @@ importPart cts h = maxℤ (importSum cts h) (pos 0)
 pub data Spot : Type 0 where
   outside : (place : ℕ) → Spot
   inHour : (hour place : ℕ) → Spot
-
--- a verdict on some lines, where their places are such spots
-abbrev pub putIn : (ℕ → Spot) → Verdict → Finding Spot
-putIn spot clear = clear
-putIn spot (fault number place) = fault number (spot place)
 
 -- the first two lines, each block, and whether bytes follow the last
 unfoldable pub importDayFault : (head : Verdict) → (block : ℕ → Verdict) → (hours : ℕ) → (surplus : Bool) → Finding Spot

@@ -92,6 +92,11 @@ abbrev pub _then_ : {Place : Type 0} → Finding Place → Finding Place → Fin
 clear then w = w
 (fault number place) then w = fault number place
 
+-- a verdict on some lines, where these have places of another kind
+abbrev pub putIn : {Place : Type 0} → (ℕ → Place) → Verdict → Finding Place
+putIn spot clear = clear
+putIn spot (fault number place) = fault number (spot place)
+
 abbrev pub otherwise : Verdict → Reply → Reply
 otherwise clear reply = reply
 otherwise (fault number place) reply = refused number place
