@@ -1,5 +1,5 @@
--- The demands on one page, those for internal controllable lines on another and request 5's on a third; the laws that carry theorems over to the texts
--- that are read and printed; document 01's listing from end to end; and small texts that meet the pages' conditions.
+-- The demands on one page, those for internal controllable lines on another, request 5's on a third and request 6's on a fourth; the laws that carry
+-- theorems over to the texts that are read and printed; document 01's listing from end to end; and small texts that meet the pages' conditions.
 pub mod Blocks
 pub mod Printed
 pub mod Opened
@@ -8,6 +8,7 @@ pub mod Taken
 pub mod Demands
 pub mod LineDemands
 pub mod NeighbourDemands
+pub mod CentDemands
 pub mod Witness
 pub mod LineWitness
 pub mod NeighbourWitness

@@ -1,13 +1,13 @@
 -- What code computes at `i64`: a number x, perhaps read back from its bits, is the number z, within N.
 use mathlib.Core.Path.{_≡_, refl, sym, _∙_, ap, subst}
 use mathlib.Core.Bool.{Bool, true, false}
-use Prim.Native.Nat.{ℕ, _+_, _*_, _/_, _^_, _<_}
-use native.Mathlib.Nat.{div-le-self}
+use Prim.Native.Nat.{ℕ, _+_, _*_, _/_, _%_, _^_, _<_, _≤_}
+use native.Mathlib.Nat.{div-le-self, mod-le}
 use native.Mathlib.Omega.{arith}
 use lib.Dec.{T, ltb, eqb}
 use borrow.Author.Tests.{eqb-true, eqb-false}
 use lib.IntN.{ℤ, pos, negsuc, _+ℤ_, _-ℤ_, _*ℤ_}
-use lib.Signed.{ltZ, mag, quotZ}
+use lib.Signed.{ltZ, mag, quotZ, remZ}
 use mir.Syntax.{w64}
 use mir.Val.{SFits, toZ, ofZ}
 use mir.Facts.{toZ-ofZ}
@@ -85,9 +85,13 @@ module _ (a b : ℤ) (fa : mag a < 2 ^ 63) (fb : mag b < 2 ^ 63) where
   pub max-no : ltZ (held a) (held b) ≡ false → a ≡ maxℤ a b
   max-no e = let h = lt-is false e in omega (arithℤ, max-parts a b)
 
--- ---- a literal, and a quotient by one, of what is not negative
+-- ---- a literal; and the quotient by one and what is left, of what is not negative
 pub literal : (n : ℕ) → Is n (pos n) (pos n)
 literal n = plain (record { above = omega arith; below = omega arith })
+
+pub over-mag : (z : ℤ) → over z ≤ mag z
+over-mag (pos n) = omega arith
+over-mag (negsuc n) = omega arith
 
 pub over-none : (a : ℤ) → ltZ a (pos 0) ≡ true → over a ≡ 0
 over-none a h = omega (arithℤ, apart a)
@@ -95,6 +99,10 @@ over-none a h = omega (arithℤ, apart a)
 quot-over : (a : ℤ) (k : ℕ) → ltZ a (pos 0) ≡ false → quotZ a (pos k) ≡ pos (over a / k)
 quot-over (pos n) k h = refl
 quot-over (negsuc n) k h = impossible cc
+
+rem-over : (a : ℤ) (k : ℕ) → ltZ a (pos 0) ≡ false → remZ a (pos k) ≡ pos (over a % k)
+rem-over (pos n) k h = refl
+rem-over (negsuc n) k h = impossible cc
 
 quot-small : (a : ℤ) (k : ℕ) → mag a < 2 ^ 63 → ltZ a (pos 0) ≡ false → SFits w64 (quotZ a (pos k))
 quot-small (pos n) k f h = record { sfits = omega (arith, div-le-self n k) }
@@ -109,3 +117,9 @@ module _ (a : ℤ) (k : ℕ) (fa : mag a < 2 ^ 63) (h : ltZ a (pos 0) ≡ false)
 
   pub quot-is : held (quotZ (held a) (pos k)) ≡ pos (over a / k)
   quot-is = toZ-ofZ quot-fits ∙ quot-held ∙ quot-over a k h
+
+  rem-held : remZ (held a) (pos k) ≡ pos (over a % k)
+  rem-held = ap (λ (z : ℤ). remZ z (pos k)) (handed a fa) ∙ rem-over a k h
+
+  pub rem-is : held (remZ (held a) (pos k)) ≡ pos (over a % k)
+  rem-is = ap held rem-held ∙ handed (pos (over a % k)) (omega (arith, mod-le (over a) k, over-mag a))

@@ -84,7 +84,7 @@ iclFigures =
     ∷ (L 4 is at (line lowered overrun gaining losing) 3 by-hand (pos 0 ∷ negℤ (pos 27000000) ∷ []))
     ∷ (L 5 is at (line short short short short) 0 by-hand (pos 0 ∷ negℤ (pos 117000000) ∷ []))
     ∷ (L 6 is at withdrawing 0 by-hand (pos 0 ∷ negℤ (pos 120600000) ∷ []))
-    ∷ (L 7 is whole (line lowered overrun gaining losing) false by-hand (pos 0 ∷ pos 175500000 ∷ pos 48 ∷ []))
+    ∷ (L 7 is whole (line lowered overrun gaining losing) false by-hand (pos 0 ∷ pos 175500000 ∷ pos 49 ∷ []))
     ∷ (L 8 is whole (line lowered gaining losing short) false by-hand (pos 0 ∷ negℤ (pos 76500000) ∷ pos 0 ∷ []))
     ∷ (L 9 is whole (line lowered gaining past losing) false by-hand (pos 7 ∷ pos 3 ∷ []))
     ∷ (L 10 is whole (line lowered gaining past losing) true by-hand (pos 0 ∷ pos 0 ∷ pos 0 ∷ []))

@@ -1,4 +1,5 @@
--- Document 01's "Figures to prove" in one table, what the definitions compute beside what the paper prints, and the claim that the two agree.
+-- Document 01's "Figures to prove" in one table, P8 as document 02's No. 6 amends it: what the definitions compute beside what the papers
+-- print, and the claim that the two agree.
 use mathlib.Core.Path.{_≡_, refl, ap}
 use mathlib.Core.Bool.{false}
 use mathlib.Core.List.{List, [], _∷_, _++_}
@@ -86,7 +87,8 @@ figures =
     ∷ (P 5 is at withdrawing 0 prints (pos 0 ∷ pos 13500000000 ∷ []))
     ∷ (P 6 is reserve (pos 10000) (pos 12000) (pos 800) (pos 0) (pos 900) ∷ [] prints (negℤ (pos 1440000000) ∷ []))
     ∷ (P 7 is at moving 0 prints (pos 0 ∷ negℤ (pos 144000000) ∷ []))
-    ∷ (P 8 is centsOf (pos 3599999) ∷ centsOf (pos 3600000) ∷ centsOf (negℤ (pos 1)) ∷ [] prints (pos 0 ∷ pos 1 ∷ pos 0 ∷ []))
+    ∷ (P 8 is centsOf (pos 3599999) ∷ centsOf (pos 3600000) ∷ centsOf (negℤ (pos 1)) ∷ [] prints (pos 1 ∷ pos 1 ∷ pos 0 ∷ []))
+    ∷ (P 8 is centsOf (pos 1800000) ∷ centsOf (pos 1799999) ∷ [] prints (pos 1 ∷ pos 0 ∷ []))
     ∷ (P 9 is pos (redTotIn derating) ∷ five (potRedIn derating) prints (pos 10000 ∷ pos 20000 ∷ pos 10000 ∷ pos 0 ∷ pos 0 ∷ pos 0 ∷ []))
     ∷ (P 9 is five (share (potRedIn derating) (redTotIn derating)) prints (pos 6667 ∷ pos 3333 ∷ pos 0 ∷ pos 0 ∷ pos 0 ∷ []))
     ∷ (P 9 is pos (redTotIn overDerated) ∷ five (potRedIn overDerated) prints (pos 30001 ∷ pos 20000 ∷ pos 10000 ∷ pos 0 ∷ pos 0 ∷ pos 0 ∷ []))
@@ -106,4 +108,4 @@ figures-hold =
     and ap said (worked-gives .2)
     and ap said (worked-gives .3)
     and ap replied worked-paid
-    and refl and refl and refl and refl and refl and refl and refl and refl and refl and refl and done
+    and refl and refl and refl and refl and refl and refl and refl and refl and refl and refl and refl and done

@@ -43,7 +43,7 @@ pub record Surplus (s : List ℕ) : Type 0 where
   pub follow : surplusIn s ≡ true
 
 -- neither the first two lines nor a block is refused, and no bytes follow the last; the import that line 1 names is paid the sum g of
--- all parts, and its cents c, to which g is rounded down once
+-- all parts, and its cents c, to which g is rounded once
 pub record PaidBy (s : List ℕ) (who g c : ℤ) : Type 0 where
   pub head : headFault s ≡ clear
   pub blocks : (k : ℕ) → k < hoursIn s → faultIn s k ≡ clear

@@ -3,11 +3,12 @@ use mathlib.Core.Path.{_≡_, refl, sym, ap}
 use Prim.Native.Nat.{ℕ, _+_, _^_, _<_, _≤_}
 use native.Mathlib.Nat.{div-le-of-le-mul}
 use native.Mathlib.Omega.{arith}
-use lib.IntN.{ℤ, pos, negsuc, _+ℤ_}
+use lib.IntN.{ℤ, pos, _+ℤ_}
 use lib.Signed.{mag}
-use Rattle.exact.specs.Whole.{over, Within}
+use Rattle.exact.specs.Whole.{Within}
 use Rattle.exact.proofs.Apart.{impossible}
 use Rattle.exact.proofs.Range.{within-add, within-more}
+use Rattle.exact.proofs.Bits.{over-mag}
 use Rattle.tariff.specs.declared.Answer.{Answer}
 use Rattle.tariff.specs.declared.Answer.the-variants.{Paid, Refused}
 use Rattle.tariff.specs.declared.Check.{Check}
@@ -31,10 +32,6 @@ most-more h u = record { most = λ c e. within-more h (u .most c e) }
 
 pub nothing-most : UpToCents 0 (total (pos 0))
 nothing-most = record { most = λ c e. let same : pos 0 ≡ c = cc in rw (← same) (record { above = omega arith; below = omega arith }) }
-
-over-mag : (z : ℤ) → over z ≤ mag z
-over-mag (pos n) = omega arith
-over-mag (negsuc n) = omega arith
 
 -- a sum of 64 bits
 cents-most : (sum : ℤ) → mag sum < 2 ^ 63 → Within 2600000000000 (centsOf sum)

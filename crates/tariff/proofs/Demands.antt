@@ -132,7 +132,7 @@ paid-exactly-when-nothing-refuses h isExcluded expected room sum cents =
       λ w. it .1 (whole-when (partsOf h) expected .1 (w .0 .whole), w .0 .intervals, w .0 .fits, w .1, w .2),
     )
 
--- S is the sum of contributions; its cents are rounded down, once.
+-- S is the sum of contributions; its cents are the nearest, rounded once.
 pub rounded-once :
     (h : Hour) (isExcluded : Bool) (expected : Expected) (room : ℕ) (sum cents : ℤ)
     → reply h isExcluded expected room ≡ paid sum cents

@@ -1,5 +1,6 @@
 -- What is proved of the definitions: `Demands` states it, the others hold the laws that it cites and those that the engine needs.
 pub mod Tests
+pub mod Nearest
 pub mod Checks
 pub mod Counts
 pub mod Turns

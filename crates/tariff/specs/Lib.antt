@@ -1,5 +1,6 @@
 -- Document 01 as definitions, a file for each of its sections, in its order; and what document 02 adds to it.
 pub mod Units
+pub mod Nearest
 pub mod Sheet
 pub mod Curve
 pub mod Reply

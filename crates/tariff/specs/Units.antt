@@ -1,5 +1,5 @@
 -- "Units": kilowatts, cents per MWh and grains are types of their own in the code. Here each is its whole number.
-use Prim.Native.Nat.{_/_}
+use Prim.Native.Nat.{_+_, _/_}
 use lib.IntN.{ℤ, pos, _*ℤ_}
 use Rattle.tariff.specs.declared.Kw.{Kw}
 use Rattle.tariff.specs.declared.Price.{Price}
@@ -35,6 +35,6 @@ grainsOf k p s = k *ℤ p *ℤ s
 abbrev pub movedGrains : ℤ → ℤ → ℤ
 movedGrains k p = k *ℤ p *ℤ pos 3600
 
--- the cents of a sum of grains: a cent is 3,600,000 grains, a sum below zero pays nothing, and what is left of a cent is dropped
+-- the cents of a sum of grains: a cent is 3,600,000 grains, a sum below zero pays nothing, and half a cent or more of one counts as one
 unfoldable pub centsOf : ℤ → ℤ
-centsOf sum = pos (over sum / 3600000)
+centsOf sum = pos ((over sum + 1800000) / 3600000)

@@ -1,3 +1,4 @@
 -- The laws of the crate's functions.
 pub mod Signs
+pub mod Cents
 pub mod Unique

@@ -67,13 +67,18 @@ pub fn gain_or_zero(g: Grains) -> Grains
     if g.0 < 0 { Grains(0) } else { g }
 }
 
+// The nearest cent, a half going up. What is left of a cent decides: half a cent added first could overflow.
 pub fn cents_of(g: Grains) -> Cents
     ensures { λ r. ⌜ r .0 ≡ centsOf (g .0) ⌝ }
 {
     if g.0 < 0 {
-        Cents(0)
+        return Cents(0);
+    }
+    let whole = g.0 / 3600000;
+    if g.0 % 3600000 < 1800000 {
+        Cents(whole)
     } else {
-        Cents(g.0 / 3600000)
+        Cents(whole + 1)
     }
 }
 

@@ -36,6 +36,7 @@ pub const PROGRAM: Program = Program {
 
 const RECIPES: &[Recipe] = &[
     recipe("days", 4, good),
+    recipe("days around a cent", 2, around_a_cent),
     recipe("one mark", 4, one_mark),
     recipe("one mark in the last hours", 3, late_mark),
     recipe("many marks", 3, many_marks),
@@ -178,6 +179,14 @@ pub fn good(rng: &mut Rng, turn: usize) -> Vec<u8> {
     let hours = all_short(rng, own.cat.len());
     let headers = three::around(rng, own, three::any);
     pieces::closed(rng, text(&headers, &hours))
+}
+
+/// Days whose hours all lie around a cent: the total adds what each of them pays,
+/// which is another sum than that of what they make.
+pub fn around_a_cent(rng: &mut Rng, turn: usize) -> Vec<u8> {
+    let headers = quiet(rng, said(turn));
+    let hours = each_hour(headers.own.cat.len(), |_| hour::around_a_cent(rng));
+    text(&headers, &hours)
 }
 
 /// The mark of a row, 0 to 6: x4 to x6, no category, x1 to x3. And another one

@@ -180,10 +180,10 @@ fn largest(rng: &mut Rng) -> HourRecord {
     record
 }
 
-/// An hour of so many cents and no grain, or one grain more or less; its
-/// intervals hold parts of cents.
-fn around_a_cent(rng: &mut Rng) -> HourRecord {
-    let cents = rng.pick(&[-1, 0, 0, 1, 1, 2, 3, 99, 245]);
+/// An hour of so many halves of a cent and no grain, or one grain more or less;
+/// its intervals hold parts of cents.
+pub fn around_a_cent(rng: &mut Rng) -> HourRecord {
+    let halves = hours::halves(rng);
     let grain = rng.between(-1, 1);
     let bid = rng.between(0, 9);
     let mut record = HourRecord {
@@ -196,23 +196,23 @@ fn around_a_cent(rng: &mut Rng) -> HourRecord {
         ..HourRecord::default()
     };
     let line = record.day_ahead;
-    // A cent is one kW at 4000 cents for 900 seconds; two thirds of each one
-    // come from another interval than the rest.
+    // Half a cent is one kW at 2000 cents for 900 seconds; three quarters of
+    // each come from another interval than the rest.
     let part = |s, price| Interval {
         r2: 0,
         p2: bid + price,
         ..still(&line, s)
     };
     let mut row = vec![
-        part(900, 3000 * cents),
-        part(900, 1000 * cents),
+        part(900, 1500 * halves),
+        part(900, 500 * halves),
         part(1, grain),
         still(&line, 899),
         still(&line, 900),
     ];
     if rng.once_in(2) {
         row[1].s = 450;
-        row[1].p2 = bid + 2000 * cents;
+        row[1].p2 = bid + 1000 * halves;
         row.push(still(&line, 450));
     }
     rng.shuffle(&mut row);

@@ -435,6 +435,12 @@ pub fn uol_with_room(rng: &mut Rng, line: &DayAhead, interval: &Interval) -> Opt
     Some(rng.pick(&[low, high, between, between]))
 }
 
+/// The halves of a cent that an hour around a cent makes. Most are odd: there one
+/// grain decides which cent is the nearest.
+pub fn halves(rng: &mut Rng) -> i64 {
+    rng.pick(&[-2, -1, 0, 1, 1, 1, 2, 3, 3, 4, 5, 199, 491])
+}
+
 /// An interval of this hour that is scheduled as in the day-ahead market: it
 /// asks for no curve, has no derate, does not lag and contributes 0.
 pub fn still(line: &DayAhead, s: i64) -> Interval {

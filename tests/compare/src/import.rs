@@ -171,10 +171,15 @@ fn good(rng: &mut Rng, turn: usize, make: fn(&mut Rng) -> ImportHour) -> Vec<u8>
     pieces::closed(rng, text)
 }
 
-/// One hour that just pays a cent, or just does not, and one that would take
-/// it away.
 fn around_a_cent(rng: &mut Rng) -> Vec<u8> {
     let said = any_said(rng);
+    let hours = hours_around_a_cent(rng, said);
+    text(rng, said, &hours)
+}
+
+/// Hours that make some halves of a cent and no grain, or one grain more or less:
+/// one hour alone, or several, where the loss of one takes nothing from another.
+pub fn hours_around_a_cent(rng: &mut Rng, said: Said) -> Vec<ImportHour> {
     let mut hours = blocks(rng, said, |_| ImportHour {
         line: ImportHourLine {
             hour: 0,
@@ -194,20 +199,23 @@ fn around_a_cent(rng: &mut Rng) -> Vec<u8> {
             4
         ],
     });
-    let [one, other, third] = [(); 3].map(|()| rng.below(hours.len()));
-    // 4000 cents for 900 seconds are a cent.
+    let one = rng.below(hours.len());
+    // 2000 cents for 900 seconds are half a cent.
     hours[one].intervals[0].rten = 0;
     hours[one].intervals[0].lbmp += 2000 * rng.between(0, 3);
-    hours[other].intervals[1].rten = 0;
-    hours[other].intervals[1].lbmp += 2000 * rng.between(-1, 2);
-    hours[third].intervals[2].s = 1;
-    hours[third].intervals[2].rten = 0;
-    hours[third].intervals[2].lbmp += rng.between(-1, 1);
-    let rest = hours[third].intervals[3];
-    hours[third]
-        .intervals
-        .push(ImportInterval { s: 899, ..rest });
-    text(rng, said, &hours)
+    for _ in 0..3 {
+        let any = rng.below(hours.len());
+        let other = &mut hours[rng.pick(&[one, any, any])].intervals[1];
+        other.rten = 0;
+        other.lbmp += 2000 * rng.pick(&[-1, 0, 1, 1, 2]);
+    }
+    let any = rng.below(hours.len());
+    let row = &mut hours[rng.pick(&[one, any])].intervals;
+    row[2].s = 1;
+    row[2].rten = 0;
+    row[2].lbmp += rng.between(-1, 1);
+    row.push(ImportInterval { s: 899, ..row[3] });
+    hours
 }
 
 /// A sheet of good blocks, and the number of the line, from 0, where the one of

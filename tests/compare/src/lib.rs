@@ -61,6 +61,9 @@ pub mod tally;
 pub mod three;
 pub mod written;
 
+#[cfg(test)]
+mod cents;
+
 /// Every program that can be compared.
 pub const PROGRAMS: [&plan::Program; 6] = [
     &hour::PROGRAM,

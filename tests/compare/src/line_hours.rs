@@ -88,17 +88,17 @@ fn few(rng: &mut Rng) -> LineAhead {
     }
 }
 
-/// An hour of so many cents and no grain, or one grain more or less; its
-/// intervals hold parts of cents.
+/// An hour of so many halves of a cent and no grain, or one grain more or less;
+/// its intervals hold parts of cents.
 pub fn around_a_cent(rng: &mut Rng) -> LineRecord {
-    let cents = rng.pick(&[-1, 0, 0, 1, 1, 2, 3, 99, 245]);
+    let halves = hours::halves(rng);
     let grain = rng.between(-1, 1);
     let ahead = few(rng);
-    // One kilowatt at 4000 cents for 900 seconds is a cent; three quarters of
-    // each come from another interval than the rest.
+    // One kilowatt at 2000 cents for 900 seconds is half a cent; three quarters
+    // of each come from another interval than the rest.
     let mut row = vec![
-        brings(&ahead, 900, 3000 * cents),
-        brings(&ahead, 900, 1000 * cents),
+        brings(&ahead, 900, 1500 * halves),
+        brings(&ahead, 900, 500 * halves),
         brings(&ahead, 1, grain),
         still(&ahead, 899),
         still(&ahead, 900),
@@ -111,9 +111,9 @@ pub fn around_a_cent(rng: &mut Rng) -> LineRecord {
     with_intervals(record, &row)
 }
 
-/// An hour of so many cents, or a grain less, and intervals that make little
-/// or nothing before there is a cap. If that were not there, or not on the
-/// whole, it would be seen in the cents.
+/// An hour of so many cents and a half, or a grain less, and intervals that make
+/// little or nothing before there is a cap. If that were not there, or not on the
+/// whole, another cent would be the nearest.
 pub fn around_the_cap(rng: &mut Rng) -> LineRecord {
     let ahead = few(rng);
     let price = |rng: &mut Rng| rng.between(-20_000, 20_000);
@@ -124,7 +124,7 @@ pub fn around_the_cap(rng: &mut Rng) -> LineRecord {
         ..LineRecord::default()
     };
     let mut row = vec![
-        brings(&ahead, 900, 4000 * rng.pick(&[1, 2, 245])),
+        brings(&ahead, 900, 2000 * rng.pick(&[1, 3, 491])),
         brings(&ahead, 1, rng.between(-1, 0)),
     ];
     for s in [900, 900, 899] {
@@ -211,14 +211,6 @@ mod tests {
     }
 
     #[test]
-    fn hours_lie_around_a_cent() {
-        let sums = sums(&answers(around_a_cent, 200).0);
-        for sum in [-1, 0, 1, 3_599_999, 3_600_000, 3_600_001, 7_199_999] {
-            assert!(sums.contains(&sum), "{sum}");
-        }
-    }
-
-    #[test]
     fn lifted_hours_pay_for_the_most_part() {
         let of = |make: fn(&mut Rng) -> LineRecord| {
             let (answers, run) = answers(make, 300);
@@ -249,9 +241,9 @@ mod tests {
     #[test]
     fn hours_lie_around_the_cap() {
         let (answers, run) = answers(around_the_cap, 100);
-        // Nothing but the cap may keep a sum of whole cents.
+        // Nothing but the cap may keep a sum at half a cent, or just below it.
         let sums = sums(&answers);
-        for sum in [3_600_000, 3_599_999, 3_600_000 - 900] {
+        for sum in [1_800_000, 1_799_999, 1_800_000 - 900] {
             assert!(sums.contains(&sum), "{sum}");
         }
         for (injection, whole) in [

@@ -26,7 +26,8 @@ pub struct Day<H = Headers> {
 }
 
 impl<H> Day<H> {
-    /// The sum of the hours; none if an hour was refused or bytes follow.
+    /// The sum of the hours' cents, each of them rounded before; none if an hour
+    /// was refused or bytes follow.
     pub fn total(&self) -> Option<i128> {
         let sum: Option<i128> = self.hours.iter().map(Answer::cents).sum();
         sum.filter(|_| !self.surplus)

@@ -97,7 +97,7 @@ pub enum ImportAnswer {
         import: i64,
         /// The sum over the hours, each from 0 up.
         grains: i128,
-        /// What is paid for the day.
+        /// What is paid for the day: this sum in cents, rounded once.
         cents: i128,
     },
     /// A block, or what stands around the blocks, is refused.

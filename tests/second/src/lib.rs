@@ -137,8 +137,11 @@ pub fn down_text(input: &[u8]) -> Moved {
 /// Grains in a cent: 1000 kW in a MW times 3600 seconds in an hour.
 pub const GRAINS_PER_CENT: i128 = 3_600_000;
 
-/// The cents of a sum: nothing is paid below zero, and the one rounding is
-/// downward, so that 3,599,999 grains pay nothing.
+/// The cents of a sum. Below zero nothing is paid. Else each whole cent is, and
+/// one more if half a cent or more is left over: 1,800,000 grains pay 1, and
+/// 1,799,999 pay 0.
 pub fn cents(grains: i128) -> i128 {
-    grains.max(0) / GRAINS_PER_CENT
+    let sum = grains.max(0);
+    let (whole, rest) = (sum / GRAINS_PER_CENT, sum % GRAINS_PER_CENT);
+    whole + i128::from(2 * rest >= GRAINS_PER_CENT)
 }

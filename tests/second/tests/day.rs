@@ -294,6 +294,20 @@ fn rows_of_marks_as_numbers_are_form() {
 }
 
 #[test]
+fn each_hour_is_rounded_by_itself() {
+    let day = |pen: &str| {
+        let blocks = blocks();
+        let changed = blocks.iter().map(|block| with_value(block, 4, "pen", pen));
+        print(&day_of_blocks(&changed.collect::<Vec<_>>()))
+    };
+    // At 30 cents each makes half a cent and pays one; all make 12.
+    assert_eq!(day("30"), printed(&[], "24"));
+    // At 29 each makes 0.475 cents and pays nothing; all make 11.4.
+    let none: Vec<_> = (0..24).map(|hour| (hour, "pay=0")).collect();
+    assert_eq!(day("29"), printed(&none, "0"));
+}
+
+#[test]
 fn totals_go_past_32_bits() {
     // The largest hour, 12,000,000,000 cents, in each of 24.
     let hours: Vec<_> = (0..24)

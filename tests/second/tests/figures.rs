@@ -69,8 +69,9 @@ fn p7_movement() {
     assert_eq!(first_quarter(&mut still_hour(0), below_bid), [0; 4]);
 }
 
-/// An hour whose sum is given: one second of reserves and regulation at these
-/// prices, one kW each.
+/// An hour whose sum is given: two seconds of reserves and regulation, one kW
+/// each, at prices that make it. The second one has what is too much for the
+/// first.
 fn hour_of_sum(grains: i64) -> HourRecord {
     let mut record = still_hour(0);
     let line = &mut record.day_ahead;
@@ -81,13 +82,14 @@ fn hour_of_sum(grains: i64) -> HourRecord {
         left -= part;
         part
     };
-    let second = Interval {
+    let mut second = || Interval {
         preg: price(),
         p1: price(),
         p2: price(),
         p3: price(),
         ..still(1)
     };
+    let (first, next) = (second(), second());
     let kept = Interval {
         reg: 1,
         r1: 1,
@@ -95,42 +97,72 @@ fn hour_of_sum(grains: i64) -> HourRecord {
         r3: 1,
         ..still(900)
     };
-    let last = Interval { s: 899, ..kept };
-    record.set_intervals(&[second, kept, kept, kept, last]);
+    let last = Interval { s: 898, ..kept };
+    record.set_intervals(&[first, next, kept, kept, kept, last]);
     record
 }
 
 #[test]
-fn p8_cents_are_rounded_down_once() {
-    for (grains, pays) in [(3_599_999, 0), (3_600_000, 1), (-1, 0), (0, 0), (1, 0)] {
-        assert_eq!(cents(grains.into()), pays);
+fn p8_cents_are_the_nearest() {
+    for (grains, pays) in [
+        // P8 as document 02 amends it.
+        (3_599_999, 1),
+        (3_600_000, 1),
+        (-1, 0),
+        // Beside zero.
+        (0, 0),
+        (1, 0),
+        // A half goes up, and a grain less does not.
+        (1_799_999, 0),
+        (1_800_000, 1),
+        (1_800_001, 1),
+        (5_399_999, 1),
+        (5_400_000, 2),
+        (7_199_999, 2),
+        (7_200_000, 2),
+        // Nothing is paid below zero, however far.
+        (-1_799_999, 0),
+        (-1_800_000, 0),
+        (-1_800_001, 0),
+        (-3_600_000, 0),
+        (-7_999_999, 0),
+    ] {
+        assert_eq!(cents(grains.into()), pays, "{grains}");
         let (answer, _) = judged(&hour_of_sum(grains), Ask::default());
         let Answer::Paid(paid) = answer else {
             panic!("{answer:?}");
         };
         assert_eq!((paid.grains, paid.cents), (grains.into(), pays));
     }
-    assert_eq!(cents(7_199_999), 1);
-    assert_eq!(cents(7_200_000), 2);
+    // The same far from zero: at the largest hour.
+    let most = 12_000_000_000;
+    assert_eq!(cents(most * 3_600_000), most);
+    assert_eq!(cents(most * 3_600_000 + 1_799_999), most);
+    assert_eq!(cents(most * 3_600_000 + 1_800_000), most + 1);
 }
 
 #[test]
 fn intervals_are_not_rounded_one_by_one() {
-    // Two intervals of half a cent each make one cent.
-    let mut record = still_hour(0);
-    record.day_ahead.r1 = 1;
-    let half = Interval {
-        p1: 2000,
-        ..still(900)
-    };
-    let kept = Interval {
-        r1: 1,
-        ..still(900)
-    };
-    record.set_intervals(&[half, half, kept, kept]);
-    assert_eq!(contributions(&record), [1_800_000, 1_800_000, 0, 0]);
-    let (answer, _) = judged(&record, Ask::default());
-    assert_eq!(answer.cents(), Some(1));
+    // Quarters of an hour of one kW, at prices of which 4000 make a cent.
+    for (prices, pays) in [
+        // 0.4 cents each make 1.2, and none of them would pay alone.
+        ([1600, 1600, 1600, 0], 1),
+        // A half would pay a cent alone: two make 1, and three make 1.5.
+        ([2000, 2000, 0, 0], 1),
+        ([2000, 2000, 2000, 0], 2),
+        // Three quarters of a cent would, too: four make 3.
+        ([3000, 3000, 3000, 3000], 3),
+        // 2.6 less 0.4 make 2.2.
+        ([10_400, -1600, 0, 0], 2),
+    ] {
+        let mut record = still_hour(0);
+        record.day_ahead.r1 = 1;
+        let quarter = |p1| Interval { p1, ..still(900) };
+        record.set_intervals(&prices.map(quarter));
+        assert_eq!(contributions(&record), prices.map(|price| 900 * price));
+        let (answer, _) = judged(&record, Ask::default());
+        assert_eq!(answer.cents(), Some(pays), "{prices:?}");
+    }
 }
 
 /// P9 inside an hour: 120,000 kW of energy and 60,000 of regulation, 20,000

@@ -248,8 +248,9 @@ fn twelve_steps() {
     let rise = -10_000_i64 * (5000 - 11) * 900;
     let printed = print(&with_line(WORKED, 3, &twelve));
     assert!(printed.contains(&format!("i=3 grains={rise}\n")));
-    let pay = (99_900_000_000 + rise) / 3_600_000;
-    assert!(printed.ends_with(&format!("hour=14 pay={pay}\n")));
+    // With the others it makes 54,999,000,000 grains: 15,277 cents and a half.
+    assert_eq!(99_900_000_000 + rise, 15_277 * 3_600_000 + 1_800_000);
+    assert!(printed.ends_with("hour=14 pay=15278\n"), "{printed}");
 }
 
 #[test]

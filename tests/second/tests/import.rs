@@ -3,7 +3,8 @@
 mod common;
 
 use common::*;
-use second::import::ImportHour;
+use second::import::{ImportHour, ImportInterval};
+
 #[track_caller]
 fn pays(text: &str, cents: i64) {
     assert_eq!(print_import(text), format!("import=7 pay={cents}\n"));
@@ -227,14 +228,62 @@ fn amounts() {
     pays(&free, 24);
 }
 
-#[test]
-fn the_day_is_rounded_once() {
-    let mut hours = one_cent_imports();
-    for hour in hours.iter_mut() {
-        // 40 cents over 99 kW: 3,564,000 grains an hour.
-        hour.line.den = 99;
+/// An hour of one kW that is curtailed for these seconds at these prices: seconds
+/// times price in grains.
+fn hour_of(hour: i64, parts: &[(i64, i64)]) -> ImportHour {
+    let mut block = one_cent_import(hour);
+    (block.line.den, block.line.dec) = (1, 0);
+    let [cut, free] = [block.intervals[0], block.intervals[1]];
+    let part = |(s, lbmp): &(i64, i64)| ImportInterval {
+        s: *s,
+        lbmp: *lbmp,
+        ..cut
+    };
+    block.intervals = parts.iter().map(part).collect();
+    let mut rest = 3600 - parts.iter().map(|(s, _)| s).sum::<i64>();
+    while rest > 0 {
+        let s = rest.min(900);
+        block.intervals.push(ImportInterval { s, ..free });
+        rest -= s;
     }
-    pays(&import_of(7, 0, &hours), 24 * 3_564_000 / 3_600_000);
+    block
+}
+
+/// Makes sure what a day pays whose first hours are curtailed so.
+#[track_caller]
+fn day_pays(parts: &[&[(i64, i64)]], cents: i64) {
+    let parts_of = |hour: i64| parts.get(hour as usize).copied().unwrap_or_default();
+    let hours: Vec<ImportHour> = (0..24).map(|hour| hour_of(hour, parts_of(hour))).collect();
+    pays(&import_of(7, 0, &hours), cents);
+}
+
+#[test]
+fn cents_are_the_nearest_of_the_day() {
+    // A half goes up, and a grain less does not, in one hour or in two.
+    day_pays(&[&[(900, 2000)]], 1);
+    day_pays(&[&[(900, 2000), (1, -1)]], 0);
+    day_pays(&[&[(900, 4000), (1, -1)]], 1);
+    day_pays(&[&[(900, 6000)]], 2);
+    day_pays(&[&[(900, 6000), (1, -1)]], 1);
+    day_pays(&[&[(900, 4000)], &[(900, 2000), (1, -1)]], 1);
+    day_pays(&[&[(900, 2000), (1, -1)], &[(1, 1)]], 1);
+    // An hour of a loss takes nothing, not even a grain; such hours pay nothing.
+    day_pays(&[&[(900, 2000)], &[(1, -1)]], 1);
+    day_pays(&[&[(900, -2000)]], 0);
+    day_pays(&[&[(900, -4000)][..]; 24], 0);
+}
+
+#[test]
+fn hours_and_intervals_are_not_rounded_one_by_one() {
+    // A half would pay a cent alone: two make 1, and 23 make 11.5.
+    day_pays(&[&[(900, 2000)][..]; 2], 1);
+    day_pays(&[&[(900, 2000)][..]; 23], 12);
+    // 0.4 cents would pay nothing alone: 24 make 9.6.
+    day_pays(&[&[(900, 1600)][..]; 24], 10);
+    // The same within an hour: 1.2, 1.5 and 3 cents.
+    day_pays(&[&[(900, 1600); 3]], 1);
+    day_pays(&[&[(900, 2000); 3]], 2);
+    day_pays(&[&[(900, 3000); 4]], 3);
 }
 
 #[test]

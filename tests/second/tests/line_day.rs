@@ -97,14 +97,19 @@ fn the_total_adds_what_is_paid() {
     prints(&loss, &[(9, "pay=0")], "23");
     let more = with_hour(&line_day(24), 9, 4, "pin", "130");
     prints(&more, &[(9, "pay=3")], "26");
-    // Each hour is rounded by itself: 3,596,400 grains pay nothing.
-    let mut text = line_day(24);
-    for hour in 0..24 {
-        text = with_hour(&text, hour, 4, "aew", "4");
-        text = with_hour(&text, hour, 4, "pout", "-1");
-    }
+}
+
+#[test]
+fn each_hour_is_rounded_by_itself() {
+    let day = |pin: &str| {
+        let change = |text: String, hour| with_hour(&text, hour, 4, "pin", pin);
+        (0..24).fold(line_day(24), change)
+    };
+    // At 30 cents each makes half a cent and pays one; all make 12.
+    prints(&day("30"), &[], "24");
+    // At 29 each makes 0.475 cents and pays nothing; all make 11.4.
     let none: Vec<_> = (0..24).map(|hour| (hour, "pay=0")).collect();
-    prints(&text, &none, "0");
+    prints(&day("29"), &none, "0");
 }
 
 #[test]

@@ -177,17 +177,28 @@ fn hour_of(parts: &[(i64, i64)]) -> LineRecord {
 }
 
 #[test]
-fn cents_are_rounded_down_once() {
+fn cents_are_the_nearest_of_the_sum() {
     for (parts, grains, pays) in [
         (&[(900, 4000)][..], 3_600_000, 1),
-        (&[(900, 4000), (1, -1)], 3_599_999, 0),
-        // Two halves of a cent are one cent.
-        (&[(900, 2000), (900, 2000)], 3_600_000, 1),
-        (&[(900, 2000), (900, 1999)], 3_599_100, 0),
-        (&[(900, 4000), (900, 3999), (1, 899)], 7_199_999, 1),
-        // A loss is set against the gains, and the sum may be below 0.
-        (&[(900, 4000), (900, -1)], 3_599_100, 0),
+        (&[(900, 4000), (1, -1)], 3_599_999, 1),
+        // A half goes up, and a grain less does not.
+        (&[(900, 2000)], 1_800_000, 1),
+        (&[(900, 2000), (1, -1)], 1_799_999, 0),
+        (&[(900, 6000)], 5_400_000, 2),
+        (&[(900, 4000), (900, 1999), (1, 899)], 5_399_999, 1),
+        // 0.4 cents three times over, and none of them would pay alone.
+        (&[(900, 1600); 3], 4_320_000, 1),
+        // A half would pay a cent alone, and so would three quarters.
+        (&[(900, 2000); 2], 3_600_000, 1),
+        (&[(900, 2000); 3], 5_400_000, 2),
+        (&[(900, 3000); 4], 10_800_000, 3),
+        // A loss is set against the gains before: 2.6 less 0.4 make 2.2.
+        (&[(900, 10_400), (900, -1600)], 7_920_000, 2),
+        // The sum may be below 0, and then nothing is paid.
         (&[(1, -1)], -1, 0),
+        (&[(900, -2000), (1, 1)], -1_799_999, 0),
+        (&[(900, -2000)], -1_800_000, 0),
+        (&[(900, -2000), (1, -1)], -1_800_001, 0),
         (&[(900, -1_000_000)], -900_000_000, 0),
         (&[], 0, 0),
     ] {
@@ -196,7 +207,7 @@ fn cents_are_rounded_down_once() {
         let Answer::Paid(paid) = answer else {
             panic!("{answer:?}");
         };
-        assert_eq!((paid.grains, paid.cents), (grains, pays));
+        assert_eq!((paid.grains, paid.cents), (grains, pays), "{parts:?}");
     }
 }
 

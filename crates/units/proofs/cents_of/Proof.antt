@@ -1,36 +1,58 @@
--- `cents_of` meets its contract: nothing below zero, and else the quotient, rounded down.
-use mathlib.Core.Path.{sym, ap}
-use Prim.Native.Nat.{ℕ, _/_}
-use lib.Dec.{lit<}
-use lib.IntN.{pos}
+-- `cents_of` meets its contract: nothing below zero; else the whole cents, and one more where half a cent or more is left.
+use mathlib.Core.Path.{_≡_, sym, _∙_, ap}
 use mathlib.Core.Bool.{true, false}
+use Prim.Native.Nat.{ℕ, _+_, _/_, _<_, _^_}
+use lib.Dec.{lit<}
+use lib.IntN.{ℤ, pos}
+use lib.Signed.{ltZ, mag}
 use Rattle.tariff.specs.Units.{centsOf}
-use Rattle.exact.proofs.Bits.{lt-is, over-none, quot-fits, quot-is}
+use Rattle.exact.proofs.Parts.{arithℤ}
+use Rattle.exact.proofs.Bits.{lt-is, over-none, quot-fits}
+use Rattle.units.proofs.Cents.{whole-is, one-more-fits, one-more-is, left-is}
 use Rattle.units.proofs.cents_of.Statement.{statement}
 use Rattle.units.proofs.cents_of.Tie as tie
 
-div-t4 : tie.Need-div-t4
-div-t4 c =
-    let at-struct-told = c .before .before .before in
-    let start = at-struct-told .before .before in
-    let f = at-struct-told .struct-told .given .0 .1 in
-    let a = start .args .g .0 in
-    (lit< tt, quot-fits a _ f (lt-is a (pos 0) f (lit< tt) false (c .before .before .if1 .left)))
+abbrev grains-at : tie.After-struct-told → ℤ
+grains-at c = c .before .before .args .g .0
+
+fits : (c : tie.After-struct-told) → mag (grains-at c) < 2 ^ 63
+fits c = c .struct-told .given .0 .1
+
+paying : (c : tie.Else1) → ltZ (grains-at (c .before)) (pos 0) ≡ false
+paying c = lt-is (grains-at (c .before)) (pos 0) (fits (c .before)) (lit< tt) false (c .if1 .left)
 
 returns : tie.Need-returns
 unfolding centsOf
 returns c =
-    let a = c .before .before .before .args .g .0 in
-    ap (λ (n : ℕ). pos (n / 3600000)) (sym (over-none a (lt-is a (pos 0) (c .before .struct-told .given .0 .1) (lit< tt) true (c .if1 .taken))))
+    let a = grains-at (c .before) in
+    ap (λ (n : ℕ). pos ((n + 1800000) / 3600000)) (sym (over-none a (lt-is a (pos 0) (fits (c .before)) (lit< tt) true (c .if1 .taken))))
+
+div-whole : tie.Need-div-whole
+div-whole c = let e = c .before .before in (lit< tt, quot-fits (grains-at (e .before)) _ (fits (e .before)) (paying e))
+
+-- the way behind the first test, where the cents are worked out
+abbrev past-first : tie.After-struct-told3 → tie.Else1
+past-first c = c .before .before .before .before
+
+rem-if2 : tie.Need-rem-if2
+rem-if2 c = let e = past-first c in (lit< tt, quot-fits (grains-at (e .before)) _ (fits (e .before)) (paying e))
+
+add-t6 : tie.Need-add-t6
+add-t6 c = let e = past-first (c .before) in one-more-fits (grains-at (e .before)) (fits (e .before)) (paying e)
 
 returns-2 : tie.Need-returns-2
 unfolding centsOf
 returns-2 c =
-    let at-struct-told = c .before .before .before in
-    let start = at-struct-told .before .before in
-    let f = at-struct-told .struct-told .given .0 .1 in
-    let a = start .args .g .0 in
-    quot-is a 3600000 f (lt-is a (pos 0) f (lit< tt) false (c .before .before .if1 .left))
+    let e = past-first (c .before) in
+    let a = grains-at (e .before) in
+    whole-is a (fits (e .before)) (paying e) ∙ omega (arithℤ, c .if2 .taken, left-is a (fits (e .before)) (paying e))
+
+returns-3 : tie.Need-returns-3
+unfolding centsOf
+returns-3 c =
+    let e = past-first (c .before) in
+    let a = grains-at (e .before) in
+    one-more-is a (fits (e .before)) (paying e) ∙ omega (arithℤ, c .if2 .left, left-is a (fits (e .before)) (paying e))
 
 pub cents-of-spec : {M : Type 1} → statement M
-cents-of-spec = tie.close (tie.spec div-t4 returns returns-2)
+cents-of-spec = tie.close (tie.spec returns div-whole rem-if2 add-t6 returns-2 returns-3)

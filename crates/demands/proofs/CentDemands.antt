@@ -1,0 +1,58 @@
+-- The promises of request 6, "nearest cent", of what an hour, a controllable line's hour and an import are paid, on one page. Demand 2 says that cents are `centsOf` of
+-- their sum; here is what these cents are, said by how far off they are from it (tariff/specs/Nearest.antt).
+use mathlib.Core.Path.{_≡_, _∙_, ap, sym, subst}
+use mathlib.Core.Bool.{Bool}
+use mathlib.Core.List.{List}
+use mathlib.Core.Logic.{_↔_}
+use Prim.Native.Nat.{ℕ, _≤_}
+use lib.IntN.{ℤ, pos}
+use lib.Signed.{_≤ℤ_}
+use Rattle.exact.specs.Whole.{maxℤ}
+use Rattle.tariff.specs.declared.Expected.{Expected}
+use Rattle.tariff.specs.Units.{centsOf}
+use Rattle.tariff.specs.Nearest.{offBy, Nearest}
+use Rattle.tariff.specs.Reply.{paid}
+use Rattle.tariff.specs.Import as import
+use Rattle.tariff.proofs.Nearest.{cents-are-the-nearest, none-is-nearer, owed-least}
+use Rattle.blocks.specs.Block.{blockOf}
+use Rattle.sheet.specs.Settle.{replyTo}
+use Rattle.iclblocks.specs.IclBlock.{iclBlockOf}
+use Rattle.iclsheet.specs.IclSettle.{iclReplyTo}
+use Rattle.imports.specs.Import.{importReply}
+use Rattle.imports.proofs.ImportDemands.{never-negative}
+use Rattle.demands.proofs.Demands.{an-hour-pays-its-contributions, an-import-pays-its-hours}
+use Rattle.demands.proofs.LineDemands.{a-line-hour-pays-its-contributions}
+
+-- The cents of a sum are the nearest to it, or to 0 where it is below 0: off by half a cent at most, and not below it where by just that. No others are.
+pub the-cents-are-the-nearest : (sum cents : ℤ) → (cents ≡ centsOf sum) ↔ Nearest (maxℤ sum (pos 0)) cents
+the-cents-are-the-nearest = cents-are-the-nearest
+
+-- No other cents are nearer, and of two that are as near the nearest are the greater: a half goes up.
+pub no-cents-are-nearer :
+    (sum cents other : ℤ)
+    → Nearest sum cents
+    → (offBy sum cents ≤ offBy sum other) × (offBy sum other ≡ offBy sum cents → other ≤ℤ cents)
+no-cents-are-nearer = none-is-nearer
+
+-- So is every hour paid,
+pub an-hour-pays-the-nearest-cent :
+    (s : List ℕ) (isExcluded : Bool) (expected : Expected) (room : ℕ) (sum cents : ℤ)
+    → replyTo (blockOf s) isExcluded expected room ≡ paid sum cents
+    → Nearest (maxℤ sum (pos 0)) cents
+an-hour-pays-the-nearest-cent s isExcluded expected room sum cents e =
+    let w = an-hour-pays-its-contributions s isExcluded expected room sum cents .0 e in
+    cents-are-the-nearest sum cents .0 (w .4 ∙ ap centsOf (sym (w .3)))
+
+-- every hour of a controllable line,
+pub a-line-hour-pays-the-nearest-cent :
+    (s : List ℕ) (isExcluded : Bool) (expected : Expected) (room : ℕ) (sum cents : ℤ)
+    → iclReplyTo (iclBlockOf s) isExcluded expected room ≡ paid sum cents
+    → Nearest (maxℤ sum (pos 0)) cents
+a-line-hour-pays-the-nearest-cent s isExcluded expected room sum cents e =
+    let w = a-line-hour-pays-its-contributions s isExcluded expected room sum cents .0 e in
+    cents-are-the-nearest sum cents .0 (w .4 ∙ ap centsOf (sym (w .3)))
+
+-- and every import, whose sum is never below 0.
+pub an-import-pays-the-nearest-cent : (s : List ℕ) (name g c : ℤ) → importReply s ≡ import.paid name g c → Nearest g c
+an-import-pays-the-nearest-cent s name g c e =
+    subst (λ (z : ℤ). Nearest z c) (owed-least g (never-negative s name g c e .0)) (cents-are-the-nearest g c .0 (an-import-pays-its-hours s name g c .0 e .cents))
