@@ -30,7 +30,7 @@ extern "C" {
  *   row, row_length       the contributions of the intervals, in grains; CULVERTJIG_ROW places are always enough
  *   place                 of a refusal: a line of the block (checks 1 to 4), an interval, counted from 1 (6 and 7), or 0 (5 and 8)
  *   grains                the hour's sum, which may be below 0; a grain is 1/3,600,000 cent
- *   cents                 what the hour pays: the sum in cents, the nearest, a half going up; 0 if the sum is below 0
+ *   cents                 what the hour pays: the whole cents nearest to the sum, a half going up; 0 if the sum is below 0
  *
  * The checks: 1 FORM, 2 RANGE, 3 ORDER (the hour is not the expected one), 4 CURVE, 5 SECONDS, 6 DERATE, 7 REACH, 8 ROOM (the row is shorter
  * than the intervals are many).

@@ -23,11 +23,12 @@ use Rattle.imports.proofs.ImportDemands.{never-negative}
 use Rattle.demands.proofs.Demands.{an-hour-pays-its-contributions, an-import-pays-its-hours}
 use Rattle.demands.proofs.LineDemands.{a-line-hour-pays-its-contributions}
 
--- The cents of a sum are the nearest to it, or to 0 where it is below 0: off by half a cent at most, and not below it where by just that. No others are.
+-- The cents of a sum are the nearest to the greater of it and 0: off from that by half a cent at most, and if by exactly half a cent, not below it.
+-- No others are.
 pub the-cents-are-the-nearest : (sum cents : ℤ) → (cents ≡ centsOf sum) ↔ Nearest (maxℤ sum (pos 0)) cents
 the-cents-are-the-nearest = cents-are-the-nearest
 
--- No other cents are nearer, and of two that are as near the nearest are the greater: a half goes up.
+-- No other cents are nearer, and any that are as near are not more: a half goes up.
 pub no-cents-are-nearer :
     (sum cents other : ℤ)
     → Nearest sum cents

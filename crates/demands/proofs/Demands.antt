@@ -168,7 +168,7 @@ what-is-read-is-what-is-printed = a-block-that-is-read-is-its-text
 
 -- ==== 2. Every contribution and payment is Attachment J's, in whole units, rounded only where document 01 says
 
--- The figures P1 to P10.
+-- The figures P1 to P10, P8 as request 6 amends it.
 pub the-figures-hold : Holds figures
 the-figures-hold = figures-hold
 

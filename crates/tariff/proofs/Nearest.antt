@@ -37,7 +37,7 @@ off-parts sum cents =
       mul-parts cents (pos 3600000),
     )
 
--- less than half a cent off, or just half a cent and not below
+-- off by less than half a cent, or by exactly half a cent and not below
 by-tie :
     {P : Type 0} (sum cents : ℤ)
     → Nearest sum cents

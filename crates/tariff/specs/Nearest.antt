@@ -13,7 +13,7 @@ centsInGrains cents = cents *ℤ pos 3600000
 unfoldable pub offBy : (sum cents : ℤ) → ℕ
 offBy sum cents = span sum (centsInGrains cents) + span (centsInGrains cents) sum
 
--- the nearest cents to a sum: off by half a cent at most, and where by just half a cent, not below it
+-- the nearest cents to a sum: off from it by half a cent at most, and if by exactly half a cent, not below it
 pub record Nearest (sum cents : ℤ) : Type 0 where
   pub near : offBy sum cents ≤ 1800000
   pub tie : offBy sum cents ≡ 1800000 → sum ≤ℤ centsInGrains cents

@@ -35,6 +35,7 @@ grainsOf k p s = k *ℤ p *ℤ s
 abbrev pub movedGrains : ℤ → ℤ → ℤ
 movedGrains k p = k *ℤ p *ℤ pos 3600
 
--- the cents of a sum of grains: a cent is 3,600,000 grains, a sum below zero pays nothing, and half a cent or more of one counts as one
+-- the cents of a sum of grains: a cent is 3,600,000 grains, a sum below zero pays nothing, and where half a cent or more is left over, it
+-- counts as one more
 unfoldable pub centsOf : ℤ → ℤ
 centsOf sum = pos ((over sum + 1800000) / 3600000)

@@ -1,4 +1,4 @@
--- What `cents_of` computes of grains that are none below 0, at `i64`: the whole cents, one more, and what is left of a cent.
+-- What `cents_of` computes of grains that are not below 0, at `i64`: the whole cents, one more, and what is left of a cent.
 use mathlib.Core.Path.{_≡_, _∙_, ap}
 use mathlib.Core.Bool.{false}
 use Prim.Native.Nat.{_+_, _/_, _%_, _<_, _^_}
