@@ -1,7 +1,7 @@
 -- What code computes at `i64`: a number x, perhaps read back from its bits, is the number z, within N.
 use mathlib.Core.Path.{_≡_, refl, sym, _∙_, ap, subst}
 use mathlib.Core.Bool.{Bool, true, false}
-use Prim.Native.Nat.{ℕ, _+_, _*_, _/_, _%_, _^_, _<_, _≤_}
+use Prim.Native.Nat.{ℕ, _+_, _*_, _/_, _%_, _^_, _<_}
 use native.Mathlib.Nat.{div-le-self, mod-le}
 use native.Mathlib.Omega.{arith}
 use lib.Dec.{T, ltb, eqb}
@@ -14,7 +14,7 @@ use mir.Facts.{toZ-ofZ}
 use Rattle.exact.proofs.Apart.{impossible}
 use Rattle.exact.specs.Whole.{over, minℤ, maxℤ, eqZ, Within}
 use Rattle.exact.proofs.Parts.{arithℤ, by-test, min-parts, max-parts, apart, true-eqZ, false-eqZ}
-use Rattle.exact.proofs.Range.{within-add, within-less, within-mul, within-fits}
+use Rattle.exact.proofs.Range.{within-add, within-less, within-mul, over-mag, within-fits}
 
 -- x as a local holds it: its bits, read back
 abbrev pub held : ℤ → ℤ
@@ -88,10 +88,6 @@ module _ (a b : ℤ) (fa : mag a < 2 ^ 63) (fb : mag b < 2 ^ 63) where
 -- ---- a literal; and the quotient by one and what is left, of what is not negative
 pub literal : (n : ℕ) → Is n (pos n) (pos n)
 literal n = plain (record { above = omega arith; below = omega arith })
-
-pub over-mag : (z : ℤ) → over z ≤ mag z
-over-mag (pos n) = omega arith
-over-mag (negsuc n) = omega arith
 
 pub over-none : (a : ℤ) → ltZ a (pos 0) ≡ true → over a ≡ 0
 over-none a h = omega (arithℤ, apart a)

@@ -47,6 +47,10 @@ within-max {a = a} {b} v w = omega (arith, max-parts a b, apart (maxℤ a b))
 pub within-span : {A B : ℕ} {a b : ℤ} → Within A a → Within B b → span a b ≤ A + B
 within-span {a = a} {b} v w = omega (arith, span-parts a b)
 
+pub over-mag : (z : ℤ) → over z ≤ mag z
+over-mag (pos n) = omega arith
+over-mag (negsuc n) = omega arith
+
 mag-parts : (z : ℤ) → mag z ≤ over z + under z
 mag-parts (pos n) = omega arith
 mag-parts (negsuc n) = omega arith

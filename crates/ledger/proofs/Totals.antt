@@ -7,8 +7,7 @@ use lib.IntN.{ℤ, pos, _+ℤ_}
 use lib.Signed.{mag}
 use Rattle.exact.specs.Whole.{Within}
 use Rattle.exact.proofs.Apart.{impossible}
-use Rattle.exact.proofs.Range.{within-add, within-more}
-use Rattle.exact.proofs.Bits.{over-mag}
+use Rattle.exact.proofs.Range.{within-add, within-more, over-mag}
 use Rattle.tariff.specs.declared.Answer.{Answer}
 use Rattle.tariff.specs.declared.Answer.the-variants.{Paid, Refused}
 use Rattle.tariff.specs.declared.Check.{Check}

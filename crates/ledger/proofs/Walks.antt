@@ -77,9 +77,10 @@ pub all-rounded : (kind : Kind) → AllRounded (answerOf kind)
 all-rounded Generator = generator-rounded
 all-rounded Icl = icl-rounded
 
-pub hour-rounded : (f : Front) → AllRounded (f .answer) → (k : ℕ) (a : Answer) → told a ≡ dayReply f k → Rounded (told a)
+-- so are those of an hour of any day
+pub hour-rounded : (f : Front) → AllRounded (f .answer) → (k : ℕ) → Rounded (dayReply f k)
 unfolding dayReply hourReply
-hour-rounded f all k a e = rw e (go (f .fault) (all (restAfter k (f .body)) (f .isExcluded k) (Says (pos k) (f .hours))))
+hour-rounded f all k = go (f .fault) (all (restAfter k (f .body)) (f .isExcluded k) (Says (pos k) (f .hours)))
   where
     go : {r : Reply} (v : Verdict) → Rounded r → Rounded (otherwise v r)
     go clear o = o

@@ -1,4 +1,3 @@
 -- The laws of the crate's functions.
 pub mod Signs
-pub mod Cents
 pub mod Unique

@@ -41,7 +41,7 @@ loop-holds : tie.Need-loop-holds Inv-loop μ-loop
 loop-holds c = let a = c .before .args in (omega arith, gone-none (a .s .now) _ _ (a .at) refl (c .before .pre .0) refl)
 
 add-requires : tie.Need-add-requires Inv-loop μ-loop
-add-requires c κs = (most-more (omega arith) (turn c .loop .inv .1 .most), hour-rounded (day c) (all-rounded (start c .args .kind)) _ (c .settle-hour .result) (reply-is c))
+add-requires c κs = (most-more (omega arith) (turn c .loop .inv .1 .most), rw (reply-is c) (hour-rounded (day c) (all-rounded (start c .args .kind)) _))
 
 loop-again : tie.Need-loop-again Inv-loop μ-loop
 loop-again c =
