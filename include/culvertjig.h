@@ -28,12 +28,12 @@ extern "C" {
  *   hours                 how many hours the block's day has: any number is taken, exactly 25 lets the block say hour 24, and every other is as
  *                         24; not read if any hour will do
  *   row, row_length       the contributions of the intervals, in grains; CULVERTJIG_ROW places are always enough
- *   place                 of a refusal: a line of the block (checks 1 to 4), an interval, counted from 1 (6 and 7), or 0 (5 and 8)
+ *   place                 of a refusal: a line of the block (checks 1 to 4), an interval, counted from 1 (6, 7 and 10), or 0 (5 and 8)
  *   grains                the hour's sum, which may be below 0; a grain is 1/3,600,000 cent
  *   cents                 what the hour pays: the whole cents nearest to the sum, a half going up; 0 if the sum is below 0
  *
  * The checks: 1 FORM, 2 RANGE, 3 ORDER (the hour is not the expected one), 4 CURVE, 5 SECONDS, 6 DERATE, 7 REACH, 8 ROOM (the row is shorter
- * than the intervals are many).
+ * than the intervals are many), 10 POINT (no real-time curve to find an operating point on). 9 is of a sheet that moves, and never given here.
  *
  * The call keeps nothing, allocates nothing, reads and writes only what is lent, and may run in many threads at once. Each pointer and its
  * length belong together, no pointer is null, what is lent for writing lies apart from everything else that is lent, and nobody else
@@ -43,7 +43,7 @@ uint64_t culvertjig_block(const uint8_t *block, size_t block_length, bool exclud
                           size_t row_length, uint64_t *place, int64_t *grains, int64_t *cents);
 
 /* The same for a block of an internal controllable line, which has other keys (docs/sheet.md). `excluded` is whether its hour's mark is 0,
- * and check 6 never refuses it.
+ * and checks 6 and 10 never refuse it.
  */
 uint64_t culvertjig_line_block(const uint8_t *block, size_t block_length, bool excluded, int64_t expected, uint64_t hours, int64_t *row,
                                size_t row_length, uint64_t *place, int64_t *grains, int64_t *cents);

@@ -6,7 +6,7 @@
 #
 # An edit shows something if the crate that it leaves is wrong, goes through the same steps, and is refused because a fact is false. So
 # in the log of no edit may a proof's answers have lost their places, as they do where the code takes a step more or less: then anything
-# would be refused. And each edit has a twin, its `same:` lines in place of its `new:` ones: a change of the same shape at the same
+# would be refused. Nor may an edited definition be one that has no meaning. And each edit has a twin, its `same:` lines in place of its `new:` ones: a change of the same shape at the same
 # place that says the same value another way. The twins have to be proved; `same` tries that, which takes as long as the edits do, and
 # is for whoever writes or doubts an edit. The last line counts what passed and what failed; the status is 1 if anything failed.
 . "$(dirname -- "$0")/common.sh"
@@ -17,12 +17,21 @@ cd "$root" || exit 2
 # what an answer says that stands at another place of the code, or at none
 lost='expected type `tie\.Need-[^`]*`, but this has type `tie\.Need-|has no `Need-|`tie\.Need-[^`]*` (is )?not|has no field|takes? (more|fewer|too many)'
 
+# Whether an edited file of specs/ says something that has no meaning: an expression of one type where another is asked for.
+ill_typed() { # LOG EDIT
+    sed -n 's/^file: \(specs\/.*\)$/\1/p' "$2" | sort -u | while IFS= read -r file; do
+        grep -E "/$file:[0-9]+:[0-9]+: error: .*expected type \`[^\`]*\`, but this has type" "$1"
+    done | grep -q .
+}
+
 refused() {
     log=target/must-fail/$1/$2/.log
     if [ ! -f "$log" ]; then
         fail "$1/$2 was not tried: no $log"
     elif grep -Eq "$lost" "$log"; then
         fail "$1/$2 is refused for its shape: $(grep -Em1 "$lost" "$log" | cut -c 1-200)"
+    elif ill_typed "$log" "crates/$1/must-fail/$2.edit"; then
+        fail "$1/$2 is refused since what it writes has no meaning"
     else
         pass
     fi

@@ -206,7 +206,7 @@ digits_row() {
 }
 
 # What may be said of a line whose numbers are in their ranges.
-admitted="0 3 4 5 6 7"
+admitted="0 3 4 5 6 7 10"
 
 # Tries a row of the page, with key $4, unit $5 and range $6, on the lines $2 to $3 of the listing $1.
 try_row() {

@@ -28,7 +28,8 @@ cd "$root" || exit 2
 # The pages that state what is proved of the definitions.
 fronts='demands/proofs/Demands tariff/proofs/Demands tariff/proofs/ShareDemands tariff/proofs/Imports sheet/proofs/BlockDemands
     marks/proofs/Far ledger/proofs/DayDemands imports/proofs/ImportDemands spelling/proofs/Spelling archived/proofs/ArchiveDemands
-    demands/proofs/LineDemands demands/proofs/NeighbourDemands demands/proofs/CentDemands marks/proofs/Midnight ledger/proofs/MidnightDemands tariff/proofs/IclDemands iclsheet/proofs/IclBlockDemands ledger/proofs/IclDayDemands'
+    demands/proofs/LineDemands demands/proofs/NeighbourDemands demands/proofs/CentDemands demands/proofs/MoveDemands demands/proofs/PointDemands marks/proofs/Midnight ledger/proofs/MidnightDemands tariff/proofs/IclDemands iclsheet/proofs/IclBlockDemands ledger/proofs/IclDayDemands
+    tariff/proofs/PointDemands sheet/proofs/BlockPoints ledger/proofs/DayPoints'
 
 work_in trace
 tab=$(printf '\t')

@@ -2,7 +2,7 @@
 use mathlib.Core.Path.{_≡_, refl}
 use mathlib.Core.List.{[], _∷_}
 use lib.IntN.{pos, negsuc}
-use Rattle.tariff.specs.Reply.{paid, refused, ORDER, SECONDS, BACK, clear, fault}
+use Rattle.tariff.specs.Reply.{paid, refused, ORDER, SECONDS, BACK, POINT, clear, fault}
 use Rattle.tariff.specs.Import as import
 use Rattle.text.specs.Text.{bytes}
 use Rattle.text.specs.Decimal.{natural}
@@ -41,6 +41,11 @@ bad-neighbour = refl
 pub back-at-2 : refusalText (fault BACK 2) ≡ bytes "refused=9 at=2\n"
 unfolding natural
 back-at-2 = refl
+
+-- an interval without its operating point
+pub point-at-1 : refusalText (fault POINT 1) ≡ bytes "refused=10 at=1\n"
+unfolding natural
+point-at-1 = refl
 
 pub not-refused : refusalText clear ≡ []
 not-refused = refl

@@ -1,11 +1,11 @@
--- The demands, on one page: of the programs `hour`, `day` and `import`, of the block call for other programs, and of what they settle; and the promises of
--- document 02's requests that are none of the three.
+-- The demands, on one page: of the programs `hour`, `day` and `import`, of the block call for other programs, and of what they settle. The promises of
+-- document 02's requests that are none of the three have pages of their own.
 -- A text is a list of bytes, any bytes. Each demand is proved by citing what proves it; the words are the documents', in specs/ of each crate.
 -- Witness.antt has small texts, and for curve that is added to a day a day of one hour, that meet the conditions, so that none is empty.
 use mathlib.Core.Path.{_≡_, refl, sym, _∙_}
 use mathlib.Core.Bool.{Bool, true, false}
 use mathlib.Core.List.{List, [], _++_}
-use mathlib.Core.Logic.{_↔_, _⊎_}
+use mathlib.Core.Logic.{_↔_}
 use Prim.Native.Nat.{ℕ, suc, _+_, _*_, _<_, _≤_}
 use native.Mathlib.Omega.{arith}
 use lib.IntN.{ℤ, pos}
@@ -16,21 +16,19 @@ use Rattle.tariff.specs.declared.Hour.{Hour}
 use Rattle.tariff.specs.declared.Expected.{Expected}
 use Rattle.tariff.specs.declared.Expected.the-variants.{Any, Says}
 use Rattle.tariff.specs.Units.{centsOf}
-use Rattle.tariff.specs.Sheet.{SHORTEST-DAY, LONGEST-DAY}
-use Rattle.tariff.specs.Reply.{paid, refused, RANGE, DERATE, REACH, BACK, clear, fault}
+use Rattle.tariff.specs.Reply.{paid, refused, DERATE, REACH, clear}
 use Rattle.tariff.specs.Hour.{contribution}
 use Rattle.tariff.specs.Eligible.{excluded}
-use Rattle.tariff.specs.Demand.{MustPrice, priceIn, FirstUnpriced, FirstExceeded, UnpricedBeforeDerate, ExceededBeforeReach, Lawful, WholeHour, Passes, Extends}
+use Rattle.tariff.specs.Demand.{MustPrice, priceIn, FirstUnpriced, SomeUnpriced, FirstExceeded, SomeExceeded, SamePoints, Lawful, WholeHour, Passes, Extends}
 use Rattle.tariff.specs.Import as import
 use Rattle.tariff.proofs.Demands.{paid-row}
 use Rattle.text.specs.Text.{bytes}
-use Rattle.lines.specs.Pieces.{PIECE, restAfter, piece, isSome, OnePiece}
+use Rattle.lines.specs.Pieces.{PIECE, restAfter, piece, isSome}
 use Rattle.lines.specs.Squeezed.{squeezed}
 use Rattle.intake.specs.declared.Intake.{Intake}
 use Rattle.intake.specs.Intake.{PIECES, keptOf, afterAll, storeAll, atFirst}
 use Rattle.intake.specs.declared.squeeze.Squeeze.{Squeeze}
 use Rattle.intake.specs.Squeeze.{squeezedBy, squeezeAfter}
-use Rattle.intake.specs.Front.{Decides}
 use Rattle.intake.proofs.Kept.{parts, room-store}
 use Rattle.intake.proofs.Squeezes.{split}
 use Rattle.blocks.specs.Block.{blockOf, read}
@@ -49,10 +47,7 @@ use Rattle.sheet.proofs.BlockDemands.{
   adding-curve-to-a-block-changes-nothing,
   behind-the-close,
 }
-use Rattle.header.specs.Layout.{layoutForm}
-use Rattle.header.specs.Header.{isForm2, layoutOf, hoursOf, headerFault}
 use Rattle.ledger.specs.Headers.{daySaid, neighbourOf}
-use Rattle.ledger.specs.Stored.{dayInput}
 use Rattle.ledger.specs.Day.{generatorAnswer, frontOf, dayReply, surplus, dayTotal}
 use Rattle.tariff.specs.Total.{total, Pays, paidCents}
 use Rattle.ledger.specs.Demand.{PricedAlike, DaysApart, BothRead}
@@ -60,6 +55,8 @@ use Rattle.ledger.proofs.SheetFront.{sheet-laws}
 use Rattle.ledger.proofs.DayDemands.{
   an-hour-is-refused-for-reach-exactly-when-some-kilowatt-is-unpriced,
   an-hour-is-refused-for-derate-exactly-when-some-reduction-exceeds,
+  reach-of-an-hour-exactly-when-unpriced,
+  derate-of-an-hour-exactly-when-exceeded,
   the-total-is-the-sum-of-what-is-printed,
 }
 use Rattle.imports.specs.Import.{hoursIn, importReply}
@@ -67,19 +64,6 @@ use Rattle.imports.specs.Demand.{PaidBy}
 use Rattle.imports.proofs.ImportDemands.{paid-exactly-when-unrefused}
 use Rattle.printed.specs.Printed.{LONGEST, headerEnd, hourText, dayText, importText}
 use Rattle.printed.proofs.Fits.{hour-fits, day-fits, import-fits}
-use Rattle.archive.specs.declared.Way.{Way}
-use Rattle.archive.specs.declared.Way.the-variants.{Down}
-use Rattle.archive.specs.Move.{back, firstLines, moveFault, movedText, formFor, formSaid, Moves}
-use Rattle.archived.proofs.ArchiveDemands.{
-  what-moves-comes-back,
-  only-the-first-lines-are-rewritten,
-  what-is-printed-stays,
-  range-at-1-exactly-for-the-wrong-way-or-another-form,
-  back-exactly-when-another-count-goes-down,
-  of-a-refused-sheet-nothing-is-written,
-  what-came-is-refused-as-the-whole,
-  what-came-and-the-rest-is-the-moved-sheet,
-}
 use Rattle.sheet.proofs.settle_block.Statement as block
 use Rattle.sheet.proofs.settle_block.Met as block-is
 use Rattle.culvertjig.proofs.culvertjig_block.Statement as library
@@ -90,8 +74,6 @@ use Rattle.printed.proofs.day_text.Statement as day
 use Rattle.printed.proofs.day_text.Met as day-is
 use Rattle.printed.proofs.import_text.Statement as import-day
 use Rattle.printed.proofs.import_text.Met as import-is
-use Rattle.archive.proofs.move_sheet.Statement as moving
-use Rattle.archive.proofs.move_sheet.Met as moving-is
 use Rattle.demands.specs.Listing.{listing}
 use Rattle.demands.proofs.Blocks.{block-paid-when, row-of-a-refused}
 use Rattle.demands.proofs.Printed.{lent, kept-hour, kept-page, kept-import, append-page, append-import, same-hour, same-answer, days-printed-alike, curve-added-to-a-day}
@@ -210,10 +192,10 @@ a-day-pays-its-hours s = the-total-is-the-sum-of-what-is-printed (frontOf s)
 pub an-import-pays-its-hours : (s : List ℕ) (name g c : ℤ) → (importReply s ≡ import.paid name g c) ↔ PaidBy s name g c
 an-import-pays-its-hours = paid-exactly-when-unrefused
 
--- ==== 3. Only the prices of the kilowatts that eligible intervals must price matter
+-- ==== 3. Only the prices of the kilowatts that eligible intervals must price matter, and where `eop=-` asks the curve for its point, that point
 
--- Two blocks that differ in their curve lines only, that no check from 1 to 4 refuses, and whose prices agree on every such kilowatt
--- have one answer and one row, however their curves are cut into steps.
+-- Two blocks that differ in their curve lines only, that no check from 1 to 4 refuses, that in each eligible interval with `eop=-` share the
+-- point or both have none, and whose prices agree on every such kilowatt, have one answer and one row, however their curves are cut into steps.
 pub only-those-prices-matter :
     (s t : List ℕ) (h g : Hour) (isExcluded : Bool) (expected : Expected) (row : List ℤ)
     → CurvesApart s t
@@ -221,6 +203,7 @@ pub only-those-prices-matter :
     → blockOf t ≡ read g
     → Lawful h expected
     → Lawful g expected
+    → SamePoints h g isExcluded
     → ((i : ℕ) (k : ℤ) → MustPrice h isExcluded i k → priceIn h i k ≡ priceIn g i k)
     → (replyTo (blockOf s) isExcluded expected (length row) ≡ replyTo (blockOf t) isExcluded expected (length row)) × (rowTo (blockOf s) isExcluded expected row ≡ rowTo (blockOf t) isExcluded expected row)
 only-those-prices-matter = only-needed-prices-of-blocks-matter
@@ -233,10 +216,11 @@ pub such-blocks-are-printed-alike :
     → blockOf t ≡ read g
     → Lawful h Any
     → Lawful g Any
+    → SamePoints h g false
     → ((i : ℕ) (k : ℤ) → MustPrice h false i k → priceIn h i k ≡ priceIn g i k)
     → hourText s ≡ hourText t
-such-blocks-are-printed-alike s t h g o x y f f′ e =
-    let same = only-those-prices-matter s t h g false Any lent o x y f f′ e in same-answer s t h g o x y (same .0) (same .1)
+such-blocks-are-printed-alike s t h g o x y f f′ points e =
+    let same = only-those-prices-matter s t h g false Any lent o x y f f′ points e in same-answer s t h g o x y (same .0) (same .1)
 
 -- And two days of such blocks are printed alike, byte for byte.
 pub such-days-are-printed-alike :
@@ -246,12 +230,12 @@ pub such-days-are-printed-alike :
     → dayText s ≡ dayText t
 such-days-are-printed-alike s t = days-printed-alike (frontOf s) (frontOf t)
 
--- An hour is refused for reach exactly when no check from 1 to 5 refuses it, such a kilowatt has no price in some interval, and no derate
--- refusal falls in that interval or before it.
+-- An hour is refused for reach exactly when no check from 1 to 5 refuses it, such a kilowatt has no price in some interval, and no point or
+-- derate refusal comes before that interval. An interval that either refuses must price nothing.
 pub refused-for-reach-exactly-when-some-interval-lacks-such-a-price :
     (s : List ℕ) (h : Hour) (isExcluded : Bool) (expected : Expected) (room : ℕ)
     → blockOf s ≡ read h
-    → ((place : ℕ) × (replyTo (blockOf s) isExcluded expected room ≡ refused REACH place)) ↔ (WholeHour h expected × UnpricedBeforeDerate h isExcluded)
+    → ((place : ℕ) × (replyTo (blockOf s) isExcluded expected room ≡ refused REACH place)) ↔ (WholeHour h expected × SomeUnpriced h isExcluded)
 refused-for-reach-exactly-when-some-interval-lacks-such-a-price = block-refused-for-reach-exactly-when-some-kilowatt-is-unpriced
 
 -- So is hour k of a day. It is excluded as the marks of the day's own header say, and those of its neighbours' that reach over midnight.
@@ -265,7 +249,7 @@ pub refused-for-reach-in-a-day-exactly-when-some-interval-lacks-such-a-price :
     → (k : ℕ) (h : Hour)
     → blockOf (piece k (frontOf s .body)) ≡ read h
     → ((place : ℕ) × (dayReply (frontOf s) k ≡ refused REACH place))
-    ↔ (WholeHour h (Says (pos k) (frontOf s .hours)) × UnpricedBeforeDerate h (frontOf s .isExcluded k))
+    ↔ (WholeHour h (Says (pos k) (frontOf s .hours)) × SomeUnpriced h (frontOf s .isExcluded k))
 refused-for-reach-in-a-day-exactly-when-some-interval-lacks-such-a-price s =
     an-hour-is-refused-for-reach-exactly-when-some-kilowatt-is-unpriced (frontOf s) refl
 
@@ -276,12 +260,21 @@ pub reach-exactly-when-such-a-kilowatt-has-no-price :
     → (replyTo (blockOf s) isExcluded expected room ≡ refused REACH (i + 1)) ↔ (WholeHour h expected × FirstUnpriced h isExcluded i)
 reach-exactly-when-such-a-kilowatt-has-no-price = block-reach-exactly-when-unpriced
 
+-- So in a day.
+pub reach-in-a-day-exactly-when-such-a-kilowatt-has-no-price :
+    (s : List ℕ)
+    → frontOf s .fault ≡ clear
+    → (k i : ℕ) (h : Hour)
+    → blockOf (piece k (frontOf s .body)) ≡ read h
+    → (dayReply (frontOf s) k ≡ refused REACH (i + 1)) ↔ (WholeHour h (Says (pos k) (frontOf s .hours)) × FirstUnpriced h (frontOf s .isExcluded k) i)
+reach-in-a-day-exactly-when-such-a-kilowatt-has-no-price s = reach-of-an-hour-exactly-when-unpriced (frontOf s) refl
+
 -- An hour is refused for derate exactly when no check from 1 to 5 refuses it, the reduction of some eligible interval exceeds the room for
--- it, and no reach refusal falls before that interval.
+-- it, and no point or reach refusal comes before that interval. POINT has the like in PointDemands.
 pub refused-for-derate-exactly-when-some-reduction-exceeds-its-room :
     (s : List ℕ) (h : Hour) (isExcluded : Bool) (expected : Expected) (room : ℕ)
     → blockOf s ≡ read h
-    → ((place : ℕ) × (replyTo (blockOf s) isExcluded expected room ≡ refused DERATE place)) ↔ (WholeHour h expected × ExceededBeforeReach h isExcluded)
+    → ((place : ℕ) × (replyTo (blockOf s) isExcluded expected room ≡ refused DERATE place)) ↔ (WholeHour h expected × SomeExceeded h isExcluded)
 refused-for-derate-exactly-when-some-reduction-exceeds-its-room = block-refused-for-derate-exactly-when-some-reduction-exceeds
 
 -- So is hour k of a day.
@@ -291,7 +284,7 @@ pub refused-for-derate-in-a-day-exactly-when-some-reduction-exceeds-its-room :
     → (k : ℕ) (h : Hour)
     → blockOf (piece k (frontOf s .body)) ≡ read h
     → ((place : ℕ) × (dayReply (frontOf s) k ≡ refused DERATE place))
-    ↔ (WholeHour h (Says (pos k) (frontOf s .hours)) × ExceededBeforeReach h (frontOf s .isExcluded k))
+    ↔ (WholeHour h (Says (pos k) (frontOf s .hours)) × SomeExceeded h (frontOf s .isExcluded k))
 refused-for-derate-in-a-day-exactly-when-some-reduction-exceeds-its-room s =
     an-hour-is-refused-for-derate-exactly-when-some-reduction-exceeds (frontOf s) refl
 
@@ -302,7 +295,17 @@ pub derate-exactly-when-a-reduction-exceeds-its-room :
     → (replyTo (blockOf s) isExcluded expected room ≡ refused DERATE (i + 1)) ↔ (WholeHour h expected × FirstExceeded h isExcluded i)
 derate-exactly-when-a-reduction-exceeds-its-room = block-derate-exactly-when-exceeded
 
--- Adding curve to a paid hour never moves a cent, where the longer curves break no rule of checks 1 to 4.
+-- So in a day.
+pub derate-in-a-day-exactly-when-a-reduction-exceeds-its-room :
+    (s : List ℕ)
+    → frontOf s .fault ≡ clear
+    → (k i : ℕ) (h : Hour)
+    → blockOf (piece k (frontOf s .body)) ≡ read h
+    → (dayReply (frontOf s) k ≡ refused DERATE (i + 1)) ↔ (WholeHour h (Says (pos k) (frontOf s .hours)) × FirstExceeded h (frontOf s .isExcluded k) i)
+derate-in-a-day-exactly-when-a-reduction-exceeds-its-room s = derate-of-an-hour-exactly-when-exceeded (frontOf s) refl
+
+-- Adding curve to a paid hour never moves a cent, where the longer curves break no rule of checks 1 to 4 and leave the points that they are
+-- asked for.
 pub adding-curve-never-moves-a-cent :
     (s t : List ℕ) (h g : Hour) (isExcluded : Bool) (expected : Expected) (row : List ℤ)
     → CurvesApart s t
@@ -312,6 +315,7 @@ pub adding-curve-never-moves-a-cent :
     → Lawful g expected
     → Extends (h .da) (g .da)
     → Extends (h .rt) (g .rt)
+    → SamePoints h g isExcluded
     → replyTo (blockOf s) isExcluded expected (length row) ≡ paid sum cents
     → (replyTo (blockOf t) isExcluded expected (length row) ≡ paid sum cents) × (rowTo (blockOf t) isExcluded expected row ≡ rowTo (blockOf s) isExcluded expected row)
 adding-curve-never-moves-a-cent = adding-curve-to-a-block-changes-nothing
@@ -325,10 +329,11 @@ pub adding-curve-changes-no-byte-of-an-hour :
     → Lawful g Any
     → Extends (h .da) (g .da)
     → Extends (h .rt) (g .rt)
+    → SamePoints h g false
     → Pays (replyTo (blockOf s) false Any 30)
     → hourText s ≡ hourText t
-adding-curve-changes-no-byte-of-an-hour s t h g o x y f d r e =
-    let same = adding-curve-never-moves-a-cent s t h g false Any lent o x y (e .sum) (e .cents) f d r (e .pays) in
+adding-curve-changes-no-byte-of-an-hour s t h g o x y f d r points e =
+    let same = adding-curve-never-moves-a-cent s t h g false Any lent o x y (e .sum) (e .cents) f d r points (e .pays) in
     same-answer s t h g o x y (e .pays ∙ sym (same .0)) (sym (same .1))
 
 -- Nor to a day whose hours are all paid: every byte that is printed stays.
@@ -336,54 +341,7 @@ pub adding-curve-to-a-day-never-moves-a-cent :
     (s t : List ℕ)
     → DaysApart (frontOf s) (frontOf t)
     → ((k : ℕ) → k < frontOf s .hours → Pays (dayReply (frontOf s) k))
-    → BothRead (frontOf s) (frontOf t) (λ k h j. Lawful j (Says (pos k) (frontOf s .hours)) × Extends (h .da) (j .da) × Extends (h .rt) (j .rt))
+    → BothRead (frontOf s) (frontOf t)
+    (λ k h j. Lawful j (Says (pos k) (frontOf s .hours)) × Extends (h .da) (j .da) × Extends (h .rt) (j .rt) × SamePoints h j (frontOf s .isExcluded k))
     → dayText s ≡ dayText t
 adding-curve-to-a-day-never-moves-a-cent s t = curve-added-to-a-day (frontOf s) (frontOf t)
-
--- ==== The archive, up and back (document 02, request 2): `Moves way s t` says that the sheet s is not refused on its way, and becomes t
-
-pub the-moving-call-answers : {M : Type 1} → moving.statement M
-the-moving-call-answers = moving-is.met
-
--- Up and then down gives the same bytes, and down and then up.
-pub a-moved-sheet-comes-back : (way : Way) (s t : List ℕ) → Moves way s t → Moves (back way) t s
-a-moved-sheet-comes-back = what-moves-comes-back
-
--- Only the header is rewritten: behind its first lines every byte is the old one.
-pub only-its-first-lines-are-rewritten :
-    (way : Way) (s t : List ℕ) → Moves way s t → (rest : List ℕ) × (s ≡ firstLines way ++ rest) × (t ≡ firstLines (back way) ++ rest)
-only-its-first-lines-are-rewritten = only-the-first-lines-are-rewritten
-
--- What `day` prints of a sheet between any neighbours' headers is, byte for byte, what it prints of the moved one between them.
-pub a-moved-sheet-is-printed-alike :
-    (way : Way) (s t : List ℕ)
-    → Moves way s t
-    → (before after : List ℕ)
-    → OnePiece before
-    → OnePiece after
-    → dayText (dayInput before s after) ≡ dayText (dayInput before t after)
-a-moved-sheet-is-printed-alike = what-is-printed-stays
-
--- BACK exactly when 23 or 25 hours go down and nothing else refuses; RANGE at line 1 exactly for the wrong way or another form number.
-pub back-exactly-when-23-or-25-hours-go-down :
-    (way : Way) (s : List ℕ) (place : ℕ)
-    → (moveFault way s ≡ fault BACK place)
-    ↔ ((way ≡ Down) × (place ≡ 2) × (headerFault s ≡ clear) × (isForm2 s ≡ true) × ((hoursOf s ≡ SHORTEST-DAY) ⊎ (hoursOf s ≡ LONGEST-DAY)))
-back-exactly-when-23-or-25-hours-go-down = back-exactly-when-another-count-goes-down
-
-pub range-at-1-exactly-when-line-1-says-another-form :
-    (way : Way) (s : List ℕ) → (moveFault way s ≡ fault RANGE 1) ↔ ((layoutForm (layoutOf s) (hoursOf s) s ≡ clear) × (formSaid s ≡ formFor way → ⊥))
-range-at-1-exactly-when-line-1-says-another-form = range-at-1-exactly-for-the-wrong-way-or-another-form
-
--- On a refusal nothing is written.
-pub a-refused-sheet-writes-nothing : (way : Way) (s : List ℕ) (number place : ℕ) → moveFault way s ≡ fault number place → movedText way s ≡ []
-a-refused-sheet-writes-nothing = of-a-refused-sheet-nothing-is-written
-
--- Of a sheet of any length the front that was read decides, and what is written of it, and then the rest as it comes, is the moved sheet.
-pub the-front-and-the-rest-are-the-moved-sheet :
-    (way : Way) (text more : List ℕ)
-    → Decides text (length (squeezed 1 text))
-    → (moveFault way (squeezed 1 text) ≡ moveFault way (text ++ more))
-    × (moveFault way (text ++ more) ≡ clear → movedText way (squeezed 1 text) ++ more ≡ movedText way (text ++ more))
-the-front-and-the-rest-are-the-moved-sheet way text more enough =
-    (what-came-is-refused-as-the-whole way text more enough, what-came-and-the-rest-is-the-moved-sheet way text more enough)

@@ -223,7 +223,7 @@ these-line-days-are-printed-alike =
     (λ k u. pieces-apart other-stands k)
     (rw header-hours (none-behind plain-stands 22 ∙ sym (none-behind other-stands 22))))
     (as-read other-stands (iclFrontOf (lineDay plain)) (iclFrontOf (lineDay other)) (body plain) (body other) _
-    (rw (eligible, hours) (priced (plain-clear (Says (pos 0) 23) refl (hour-0 23)) (other-clear (Says (pos 0) 23) refl (hour-0 23)) agree)))
+    (rw (eligible, hours) (priced (plain-clear (Says (pos 0) 23) refl (hour-0 23)) (other-clear (Says (pos 0) 23) refl (hour-0 23)) tt agree)))
   where
     body : (da : List ℕ) → iclFrontOf (lineDay da) .body ≡ lineBlock da
     body da = icl-behind lineHeader header-clear header-alone (lineBlock da)

@@ -1,19 +1,18 @@
 -- Document 01's listing from end to end: its bytes are read to the record whose figures are proved, and what is printed of them.
 use mathlib.Core.Path.{_≡_, refl, _∙_}
-use mathlib.Core.Bool.{false, true}
+use mathlib.Core.Bool.{false}
 use mathlib.Core.List.{List, [], _∷_}
-use Prim.Native.Nat.{ℕ, zero, suc, _≤_}
+use Prim.Native.Nat.{ℕ}
 use native.Mathlib.Omega.{arith}
 use lib.IntN.{pos, negsuc}
 use Rattle.exact.specs.Whole.{upTo}
-use Rattle.exact.proofs.Apart.{impossible}
 use Rattle.figures.specs.Sample.{twoSteps, worked}
 use Rattle.figures.specs.Worked.{worked-gives, worked-paid}
 use Rattle.tariff.specs.declared.Hour.{Hour}
 use Rattle.tariff.specs.declared.Expected.the-variants.{Any}
 use Rattle.tariff.specs.Reply.{Reply, refused, REACH}
 use Rattle.tariff.specs.Hour.{outcomeAt, contribution, reply}
-use Rattle.tariff.specs.Demand.{Unpriced, DerateRefused, WholeHour}
+use Rattle.tariff.specs.Demand.{Unpriced, WholeHour}
 use Rattle.tariff.proofs.Demands.{reach-exactly-when-unpriced}
 use Rattle.tariff.proofs.Needed.{withCurves}
 use Rattle.text.specs.Text.{bytes}
@@ -61,26 +60,26 @@ unfolding pricing
 last-unpriced = record {
   kilowatt = pos 99999;
   needed = record {
-    counted = omega arith;
-    eligible = refl;
-    notLagging = refl;
+    eligible = record { counted = omega arith; notExcluded = refl; notLagging = refl };
+    E = pos 90000;
+    found = refl;
     noDerate = refl;
     needed = record { low = record { le = tt }; high = record { lt = tt } };
   };
   missing = refl;
 }
 
-no-derate : (j : ℕ) → j ≤ 0 → DerateRefused short false j → ⊥
-unfolding pricing
-no-derate zero u d =
-    let e : false ≡ true = d .exceeded in
-    impossible cc
-no-derate (suc j) u d = absurd (omega arith)
-
 short-refused : reply short false Any 30 ≡ refused REACH 1
 short-refused =
-    reach-exactly-when-unpriced short false Any 30 0 .1
-    (short-clear, record { here = last-unpriced; first = λ j u w. absurd (omega arith); noDerateBefore = no-derate })
+    reach-exactly-when-unpriced short false Any 30 0 .1 (
+      short-clear,
+      record {
+        here = last-unpriced;
+        first = λ j u w. absurd (omega arith);
+        noSecondBefore = λ j u w. absurd (omega arith);
+        noThirdBefore = λ j u w. absurd (omega arith);
+      },
+    )
 
 pub short-printed : hourText (listing (bytes "99999")) ≡ bytes "refused=7 at=1\n"
 short-printed = printed-as (listing (bytes "99999")) short _ short-listed short-refused ∙ answers.reach-at-1

@@ -11,6 +11,7 @@ use Rattle.tariff.specs.Units.{centsOf}
 use Rattle.tariff.specs.Sheet.{allTo, aheadInRange, curveInRange, intervalInRange, curveKeeps}
 use Rattle.tariff.specs.Curve.{Amount, quoteFrom, quote, sumUp, integral}
 use Rattle.tariff.specs.Reply.{Reply, Verdict, firstOf}
+use Rattle.tariff.specs.Point.{firstDearer, pointOn}
 use Rattle.tariff.specs.Derate.{exceedsRoom, reduced}
 use Rattle.tariff.specs.Contributions.{lowerLimit, upperLimit, energyBy, reserve, regulation, movement, otherThanEnergy}
 use Rattle.tariff.specs.Outcome.{firstStop, sumBy, replyBy}
@@ -49,7 +50,7 @@ judging s = headerFault s
 
 -- what an interval must price, and at what price
 unfoldable pub pricing : Curve → ℤ → Amount
-unfolding exceedsRoom reduced lowerLimit upperLimit minℤ maxℤ quote quoteFrom
+unfolding exceedsRoom reduced lowerLimit upperLimit minℤ maxℤ quote quoteFrom firstDearer pointOn
 pricing c k = quote c k
 
 -- checks 1 to 5

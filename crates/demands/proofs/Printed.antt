@@ -9,7 +9,7 @@ use lib.ListN.{take, replicate}
 use Rattle.tariff.specs.declared.Hour.{Hour}
 use Rattle.tariff.specs.declared.Expected.the-variants.{Any, Says}
 use Rattle.tariff.specs.Total.{Pays}
-use Rattle.tariff.specs.Demand.{Lawful, Extends}
+use Rattle.tariff.specs.Demand.{SamePoints, Lawful, Extends}
 use Rattle.tariff.specs.ControllableDemand.{IclLawful}
 use Rattle.lines.specs.Pieces.{PIECE, restAfter, isSome}
 use Rattle.lines.specs.Squeezed.{squeezed}
@@ -62,7 +62,7 @@ module _ (f g : Front) (apart : DaysApart f g) where
   days-printed-alike priced = printed-alike headerEnd f g (only-needed-prices-of-a-day-matter f g apart priced)
 
   pub curve-added-to-a-day : ((k : ℕ) → k < f .hours → Pays (dayReply f k))
-      → BothRead f g (λ k h j. Lawful j (Says (pos k) (f .hours)) × Extends (h .da) (j .da) × Extends (h .rt) (j .rt)) → dayPage headerEnd f ≡ dayPage headerEnd g
+      → BothRead f g (λ k h j. Lawful j (Says (pos k) (f .hours)) × Extends (h .da) (j .da) × Extends (h .rt) (j .rt) × SamePoints h j (f .isExcluded k)) → dayPage headerEnd f ≡ dayPage headerEnd g
   curve-added-to-a-day pays longer = printed-alike headerEnd f g (adding-curve-to-a-day-changes-nothing f g apart pays longer)
 
 -- what is kept of a text of any kind, which has three headers at most, and a text with bytes more behind it

@@ -1,5 +1,5 @@
 -- Small texts that meet the conditions of the front page, with curves that differ, and its theorems said of them: none is empty. They are
--- specs/Small.antt's: a block with a plain curve, with another price where none is needed, and with a longer curve. And archive's examples, a sheet in both forms.
+-- specs/Small.antt's: a block with a plain curve, with another price where none is needed, and with a longer curve.
 use mathlib.Core.Path.{_≡_, refl, sym, ap, _∙_}
 use mathlib.Core.Bool.{true, false}
 use mathlib.Core.List.{List, [], _++_}
@@ -15,13 +15,18 @@ use Rattle.tariff.specs.declared.Curve.{Curve}
 use Rattle.tariff.specs.declared.Hour.{Hour}
 use Rattle.tariff.specs.declared.Expected.{Expected}
 use Rattle.tariff.specs.declared.Expected.the-variants.{Any, Says}
+use Rattle.tariff.specs.declared.MaybeKw.the-variants.{Missing}
+use Rattle.tariff.specs.Point.{pointOf}
+use Rattle.tariff.specs.Derate.{reduced}
+use Rattle.tariff.specs.Contributions.{limitIn}
 use Rattle.tariff.specs.Sheet.{isHour, endOf, priceOf}
 use Rattle.tariff.specs.Curve.{known, quote}
 use Rattle.tariff.specs.Reply.{paid, clear}
 use Rattle.tariff.specs.Checks.{hoursAround}
-use Rattle.tariff.specs.Hour.{order, reply}
+use Rattle.tariff.specs.Hour.{interval, order, reply}
 use Rattle.tariff.specs.Total.{Pays}
-use Rattle.tariff.specs.Demand.{Between, MustPrice, priceIn, Lawful, Extends}
+use Rattle.tariff.specs.Demand.{Between, MustPrice, priceIn, SamePoints, PointsGiven, Lawful, Extends}
+use Rattle.tariff.proofs.PointDemands.{given-points-are-shared}
 use Rattle.tariff.proofs.Demands.{paid-exactly-when-nothing-refuses, more-steps-extend}
 use Rattle.text.specs.Text.{LF, bytes}
 use Rattle.lines.specs.Cut.{behind}
@@ -30,21 +35,12 @@ use Rattle.blocks.specs.Block.{Block, blockOf, read}
 use Rattle.sheet.specs.Settle.{replyTo}
 use Rattle.sheet.specs.Apart.{InThree, CurvesApart}
 use Rattle.ledger.specs.Day.{generatorAnswer, Front, frontOf, dayReply}
-use Rattle.ledger.specs.Stored.{lacking, dayInput}
 use Rattle.ledger.specs.Demand.{BlocksApart, same, apart, priced, DaysApart, BothRead}
 use Rattle.ledger.proofs.HourOfDay.{read-reply}
 use Rattle.ledger.proofs.AnyFront.{SameFront}
 use Rattle.ledger.proofs.FrontAlone.{front-stays, front-behind}
 use Rattle.ledger.proofs.DayDemands.{days-with-the-same-headers-are-apart}
-use Rattle.ledger.proofs.MidnightDemands.{an-empty-line-is-one-piece}
 use Rattle.imports.specs.Import.{countIn, hoursIn}
-use Rattle.lines.specs.Squeezed.{squeezed}
-use Rattle.intake.specs.Squeeze.{squeezeNext, squeezeAfter}
-use Rattle.intake.specs.Front.{Decides}
-use Rattle.intake.specs.Front.Decides.{closed}
-use Rattle.archive.specs.declared.Way.the-variants.{Up, Down}
-use Rattle.archive.specs.Move.{moveFault, Moves}
-use Rattle.archive.specs.Examples.{one, two, goes-up}
 use Rattle.printed.specs.Printed.{headerEnd, hourText, dayPage, dayText, importText}
 use Rattle.demands.specs.Small.{first, curves, rest, block, hour, headers, day, plain, other, longer, plainRead, otherRead, longerRead}
 use Rattle.demands.proofs.Opened.{reading, cutting, judging, pricing, checking, settling}
@@ -53,9 +49,6 @@ use Rattle.demands.proofs.Demands.{
   such-blocks-are-printed-alike,
   such-days-are-printed-alike,
   adding-curve-changes-no-byte-of-an-hour,
-  a-moved-sheet-comes-back,
-  a-moved-sheet-is-printed-alike,
-  the-front-and-the-rest-are-the-moved-sheet,
 }
 use Rattle.demands.proofs.Printed.{curve-added-to-a-day}
 
@@ -129,9 +122,9 @@ hour-0 hours c = refl
 pub a-kilowatt-must-be-priced : MustPrice (hour plainRead) false 0 (pos 2)
 unfolding pricing
 a-kilowatt-must-be-priced = record {
-  counted = omega arith;
-  eligible = refl;
-  notLagging = refl;
+  eligible = record { counted = omega arith; notExcluded = refl; notLagging = refl };
+  E = pos 2;
+  found = refl;
   noDerate = refl;
   needed = record { low = record { le = tt }; high = record { lt = tt } };
 }
@@ -144,13 +137,32 @@ only-2 k b =
     let same : k ≡ pos 2 = omega arithℤ in
     rw same
 
+-- each interval gives its `eop`, and so the points are shared with any other curve
+given : PointsGiven (hour plainRead) false
+given i m = go i (m .eligible .counted) (m .notGiven)
+  where
+    go : (i : ℕ) → i < 4 → interval (hour plainRead) i .eop ≡ Missing → ⊥
+    go zero u e = impossible cc
+    go (suc zero) u e = impossible cc
+    go (suc (suc zero)) u e = impossible cc
+    go (suc (suc (suc zero))) u e = impossible cc
+    go (suc (suc (suc (suc i)))) u e = absurd (omega arith)
+
+points : (c : Curve) → SamePoints (hour plainRead) (hour c) false
+points c = given-points-are-shared (hour plainRead) (hour c) false given
+
 agree : (i : ℕ) (k : ℤ) → MustPrice (hour plainRead) false i k → priceIn (hour plainRead) i k ≡ priceIn (hour otherRead) i k
 unfolding pricing
-agree zero k m = only-2 k (m .needed)
-agree (suc zero) k m = only-2 k (m .needed)
-agree (suc (suc zero)) k m = only-2 k (m .needed)
-agree (suc (suc (suc zero))) k m = only-2 k (m .needed)
-agree (suc (suc (suc (suc i)))) k m = let u : suc (suc (suc (suc i))) < 4 = m .counted in absurd (omega arith)
+agree i k m = go i (m .eligible .counted) (m .E) (m .found) (m .needed)
+  where
+    go : (i : ℕ) → i < 4 → (E : ℤ) → pointOf emptyCurve (interval (hour plainRead) i) ≡ known E
+        → Between (reduced (hour plainRead .ahead) (interval (hour plainRead) i) 0) (limitIn (hour plainRead .ahead) (interval (hour plainRead) i) E) k
+        → priceIn (hour plainRead) i k ≡ priceIn (hour otherRead) i k
+    go zero u E p b = let e : pos 2 ≡ E = cc in only-2 k (rw (← e) at b)
+    go (suc zero) u E p b = let e : pos 2 ≡ E = cc in only-2 k (rw (← e) at b)
+    go (suc (suc zero)) u E p b = let e : pos 2 ≡ E = cc in only-2 k (rw (← e) at b)
+    go (suc (suc (suc zero))) u E p b = let e : pos 2 ≡ E = cc in only-2 k (rw (← e) at b)
+    go (suc (suc (suc (suc i)))) u E p b = absurd (omega arith)
 
 pub the-curves-differ : quote plainRead (pos 0) ≡ quote otherRead (pos 0) → ⊥
 unfolding pricing
@@ -247,7 +259,7 @@ this-day-is-paid (suc k) u = absurd (omega arith)
 pub these-blocks-are-printed-alike : hourText (block plain) ≡ hourText (block other)
 these-blocks-are-printed-alike =
     such-blocks-are-printed-alike (block plain) (block other) (hour plainRead) (hour otherRead)
-    (lines-apart other-stands) (plain-stands .reads) (other-stands .reads) (plain-clear Any refl any-hour) (other-clear Any refl any-hour) agree
+    (lines-apart other-stands) (plain-stands .reads) (other-stands .reads) (plain-clear Any refl any-hour) (other-clear Any refl any-hour) (points otherRead) agree
 
 pub these-days-are-printed-alike : dayText (day plain) ≡ dayText (day other)
 these-days-are-printed-alike =
@@ -256,19 +268,19 @@ these-days-are-printed-alike =
     (λ k u. pieces-apart other-stands k)
     (rw headers-hours (none-behind plain-stands 22 ∙ sym (none-behind other-stands 22))))
     (as-read other-stands (frontOf (day plain)) (frontOf (day other)) (day-body plain) (day-body other) _
-    (rw (eligible, this-day-is-read .1) (priced (plain-clear (Says (pos 0) 23) refl (hour-0 23)) (other-clear (Says (pos 0) 23) refl (hour-0 23)) agree)))
+    (rw (eligible, this-day-is-read .1) (priced (plain-clear (Says (pos 0) 23) refl (hour-0 23)) (other-clear (Says (pos 0) 23) refl (hour-0 23)) (points otherRead) agree)))
 
 pub curve-is-added-to-this-block : hourText (block plain) ≡ hourText (block longer)
 curve-is-added-to-this-block =
     adding-curve-changes-no-byte-of-an-hour (block plain) (block longer) (hour plainRead) (hour longerRead)
-    (lines-apart longer-stands) (plain-stands .reads) (longer-stands .reads) (longer-clear Any refl any-hour) extended (unchanged emptyCurve)
+    (lines-apart longer-stands) (plain-stands .reads) (longer-stands .reads) (longer-clear Any refl any-hour) extended (unchanged emptyCurve) (points longerRead)
     this-block-is-paid
 
 pub curve-is-added-to-this-day : dayPage headerEnd (oneHour plain) ≡ dayPage headerEnd (oneHour longer)
 curve-is-added-to-this-day =
     curve-added-to-a-day (oneHour plain) (oneHour longer) days-apart this-day-is-paid
     (as-read longer-stands (oneHour plain) (oneHour longer) refl refl _
-    (longer-clear (Says (pos 0) 1) refl (hour-0 1), extended, unchanged emptyCurve))
+    (longer-clear (Says (pos 0) 1) refl (hour-0 1), extended, unchanged emptyCurve, points longerRead))
   where
     days-apart : DaysApart (oneHour plain) (oneHour longer)
     days-apart = record {
@@ -302,17 +314,3 @@ behind-this-import = refl
 
 pub no-byte-matters-behind-this-import : (t : List ℕ) → importText (longImport ++ t) ≡ importText longImport
 no-byte-matters-behind-this-import t = behind-the-last-block-no-byte-matters longImport t .1 behind-this-import
-
--- ---- a sheet that moves up, and is printed alike; and one that is read in two parts, of which the first ends behind its header
-moved-comes-back : Moves Down two one
-moved-comes-back = a-moved-sheet-comes-back Up one two goes-up
-
-moved-printed-alike : dayText (dayInput lacking one lacking) ≡ dayText (dayInput lacking two lacking)
-moved-printed-alike = a-moved-sheet-is-printed-alike Up one two goes-up lacking lacking an-empty-line-is-one-piece an-empty-line-is-one-piece
-
-one-decides : Decides one (length (squeezed 1 one))
-unfolding squeezeAfter squeezeNext
-one-decides = closed refl
-
-read-in-parts : (more : List ℕ) → moveFault Up (squeezed 1 one) ≡ moveFault Up (one ++ more)
-read-in-parts more = the-front-and-the-rest-are-the-moved-sheet Up one more one-decides .0

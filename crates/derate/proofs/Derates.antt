@@ -11,7 +11,7 @@ use Rattle.exact.proofs.Range.{within-lit, within-less}
 use Rattle.exact.proofs.Sums.{sum-within}
 use Rattle.exact.proofs.Tests.{and-left, and-right}
 use Rattle.tariff.specs.declared.Kw.{Kw}
-use Rattle.tariff.specs.declared.Uol.the-variants.{Missing, At}
+use Rattle.tariff.specs.declared.MaybeKw.the-variants.{Missing, At}
 use Rattle.tariff.specs.declared.DayAhead.{DayAhead}
 use Rattle.tariff.specs.declared.Interval.{Interval}
 use Rattle.tariff.specs.Sheet.{isPower}

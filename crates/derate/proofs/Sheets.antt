@@ -7,8 +7,8 @@ use lib.Signed.{leZ}
 use Rattle.exact.specs.Whole.{Within}
 use Rattle.exact.proofs.Parts.{arithℤ}
 use Rattle.exact.proofs.Tests.{and-both}
-use Rattle.tariff.specs.declared.Uol.{Uol}
-use Rattle.tariff.specs.declared.Uol.the-variants.{Missing, At}
+use Rattle.tariff.specs.declared.MaybeKw.{MaybeKw}
+use Rattle.tariff.specs.declared.MaybeKw.the-variants.{Missing, At}
 use Rattle.tariff.specs.declared.DayAhead.{DayAhead}
 use Rattle.tariff.specs.declared.Interval.{Interval}
 use Rattle.tariff.specs.Sheet.{isPower, aheadInRange, uolInRange, intervalInRange}
@@ -26,7 +26,7 @@ are-powers : (f : ℕ → ℤ) → ((j : ℕ) → j < 5 → Within 2000000 (f j)
 are-powers f h = all-of (λ j. isPower (f j)) 5 (λ j u. is-power (h j u))
 
 module _ (a : DayAhead) (v : Interval) (ea : aheadInRange a ≡ true) (ev : intervalInRange v ≡ true) where
-  under : (limit : Uol) → uolInRange limit ≡ true → deratableUnder a v limit ≡ true
+  under : (limit : MaybeKw) → uolInRange limit ≡ true → deratableUnder a v limit ≡ true
   under Missing e = refl
   under (At limit) e =
       rw (are-powers (dayAhead a) (ahead-within a ea), are-powers (realTime v) (live-within v ev)) (is-power (capacity-within {z = limit .0} e))

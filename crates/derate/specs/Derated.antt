@@ -3,8 +3,8 @@ use mathlib.Core.Bool.{Bool, true, not, _&&_, _||_}
 use Prim.Native.Nat.{ℕ}
 use lib.IntN.{ℤ}
 use Rattle.exact.specs.Choice.{if_then_else_}
-use Rattle.tariff.specs.declared.Uol.{Uol}
-use Rattle.tariff.specs.declared.Uol.the-variants.{Missing, At}
+use Rattle.tariff.specs.declared.MaybeKw.{MaybeKw}
+use Rattle.tariff.specs.declared.MaybeKw.the-variants.{Missing, At}
 use Rattle.tariff.specs.declared.DayAhead.{DayAhead}
 use Rattle.tariff.specs.declared.Interval.{Interval}
 use Rattle.tariff.specs.Sheet.{isPower, allTo}
@@ -17,7 +17,7 @@ abbrev pub arePowers : (ℕ → ℤ) → Bool
 arePowers f = allTo (λ j. isPower (f j)) 5
 
 -- where there is a limit, it and the schedules are in the range of power
-abbrev pub deratableUnder : DayAhead → Interval → Uol → Bool
+abbrev pub deratableUnder : DayAhead → Interval → MaybeKw → Bool
 deratableUnder a v Missing = true
 deratableUnder a v (At limit) = arePowers (dayAhead a) && arePowers (realTime v) && isPower (limit .0)
 

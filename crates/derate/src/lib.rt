@@ -8,7 +8,7 @@ ghost use Rattle.derate.specs.Derated.{arePowers, derateOf};
 use tariff::DayAhead;
 use tariff::Interval;
 use tariff::Kw;
-use tariff::Uol;
+use tariff::MaybeKw;
 
 mod cuts;
 mod five;
@@ -55,7 +55,7 @@ pub fn derate_of(a: DayAhead, v: Interval) -> Derated
 {
     let das = ahead_five(a);
     let uol = v.uol;
-    let Uol::At(limit) = uol else {
+    let MaybeKw::At(limit) = uol else {
         return Derated {
             exceeds: false,
             schedules: das,

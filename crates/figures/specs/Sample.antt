@@ -8,8 +8,8 @@ use Rattle.tariff.specs.declared.DayAhead.{DayAhead}
 use Rattle.tariff.specs.declared.Interval.{Interval}
 use Rattle.tariff.specs.declared.Hour.{Hour}
 use Rattle.tariff.specs.declared.MarkedDay.{MarkedDay}
-use Rattle.tariff.specs.declared.Uol.{Uol}
-use Rattle.tariff.specs.declared.Uol.the-variants.{Missing, At}
+use Rattle.tariff.specs.declared.MaybeKw.{MaybeKw}
+use Rattle.tariff.specs.declared.MaybeKw.the-variants.{Missing, At}
 use Rattle.tariff.specs.Units.{kw, price, movePrice, seconds}
 use Rattle.tariff.specs.Hour.{blank}
 
@@ -45,14 +45,14 @@ twoSteps to at to′ at′ =
       at = price at ∷ price at′ ∷ replicate 10 (price (pos 0));
     }
 
-abbrev pub quarter : (en ae co eop pen lim : ℤ) → Uol → (r1 mv pmv bmv : ℤ) → Interval
+abbrev pub quarter : (en ae co eop pen lim : ℤ) → MaybeKw → (r1 mv pmv bmv : ℤ) → Interval
 quarter en ae co eop pen lim uol r1 mv pmv bmv =
     record {
       s = seconds (pos 900);
       en = kw en;
       ae = kw ae;
       co = kw co;
-      eop = kw eop;
+      eop = At (kw eop);
       pen = price pen;
       lim = kw lim;
       uol = uol;
@@ -74,7 +74,7 @@ quarter en ae co eop pen lim uol r1 mv pmv bmv =
 abbrev pub energyQuarter : (en ae co eop pen lim : ℤ) → Interval
 energyQuarter en ae co eop pen lim = quarter en ae co eop pen lim Missing (pos 0) (pos 0) (pos 0) (pos 0)
 
-abbrev pub idleQuarter : Uol → (r1 mv pmv bmv : ℤ) → Interval
+abbrev pub idleQuarter : MaybeKw → (r1 mv pmv bmv : ℤ) → Interval
 idleQuarter = quarter (pos 0) (pos 1) (pos 0) (pos 0) (pos 0) (pos 0)
 
 abbrev pub hourOf : DayAhead → (da rt : Curve) → (i₁ i₂ i₃ i₄ : Interval) → Hour

@@ -9,8 +9,8 @@ use lib.IntN.{ℤ, pos, negℤ}
 use Rattle.exact.specs.Whole.{span, minℤ, maxℤ, upTo, sumTo}
 use Rattle.tariff.specs.declared.DayAhead.{DayAhead}
 use Rattle.tariff.specs.declared.Hour.{Hour}
-use Rattle.tariff.specs.declared.Uol.{Uol}
-use Rattle.tariff.specs.declared.Uol.the-variants.{Missing, At}
+use Rattle.tariff.specs.declared.MaybeKw.{MaybeKw}
+use Rattle.tariff.specs.declared.MaybeKw.the-variants.{Missing, At}
 use Rattle.tariff.specs.declared.Expected.the-variants.{Any}
 use Rattle.tariff.specs.Units.{centsOf}
 use Rattle.tariff.specs.Sheet.{allTo, aheadInRange, curveInRange, intervalInRange, curveKeeps}
@@ -62,7 +62,7 @@ whole h = replied (reply h false Any 30)
 
 -- ---- the derate of an hour's first interval: REDtot, the five POTRED, the five shares
 
-abbrev pub redTotUnder : DayAhead → Uol → ℕ
+abbrev pub redTotUnder : DayAhead → MaybeKw → ℕ
 redTotUnder a Missing = 0
 redTotUnder a (At limit) = redTot a (limit .0)
 

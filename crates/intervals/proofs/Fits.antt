@@ -4,13 +4,14 @@ use mathlib.Core.Bool.{Bool, true, false, _&&_}
 use mathlib.Core.List.{List}
 use Prim.Native.Nat.{ℕ, _+_, _<_, _≤_}
 use native.Mathlib.Omega.{arith}
+use lib.IntN.{ℤ}
 use lib.ListN.{set, replicate, length-set}
 use Rattle.exact.proofs.Apart.{impossible}
 use Rattle.exact.specs.Choice.{if_then_else_}
 use Rattle.exact.proofs.Parts.{by-test}
 use Rattle.exact.proofs.Range.{within-less, within-mul, within-lit, within-zero}
 use Rattle.tariff.specs.declared.Check.{Check}
-use Rattle.tariff.specs.declared.Check.the-variants.{Derate}
+use Rattle.tariff.specs.declared.Check.the-variants.{Derate, Point}
 use Rattle.tariff.specs.declared.Curve.{Curve}
 use Rattle.tariff.specs.declared.DayAhead.{DayAhead}
 use Rattle.tariff.specs.declared.Found.{Found}
@@ -22,13 +23,16 @@ use Rattle.tariff.specs.declared.IclInterval.{IclInterval}
 use Rattle.tariff.specs.declared.Expected.{Expected}
 use Rattle.tariff.specs.declared.Interval.{Interval}
 use Rattle.tariff.specs.Sheet.{aheadInRange, curveInRange, intervalInRange}
+use Rattle.tariff.specs.Curve.{known}
 use Rattle.tariff.specs.Derate.{exceedsRoom}
+use Rattle.tariff.specs.Point.{pointOf}
 use Rattle.tariff.specs.Contributions.{curveIn}
 use Rattle.tariff.specs.Reply.{clear, placeOf}
 use Rattle.tariff.specs.Checks.{Parts, formOf, rangeOf}
 use Rattle.tariff.specs.Hour.{form, range, interval, partsOf, outcomeAt}
 use Rattle.tariff.specs.Controllable.{iclAheadInRange, iclIntervalInRange, iclInterval, iclParts, iclOutcomeAt}
-use Rattle.tariff.proofs.Ranges.{interval-fits, icl-ahead-fits, icl-interval-fits, form-says, range-says}
+use Rattle.tariff.proofs.Ranges.{interval-fits, eop-fits, icl-ahead-fits, icl-interval-fits, form-says, range-says}
+use Rattle.tariff.proofs.Points.{point-within}
 use Rattle.tariff.proofs.Limits.{limit-within, capped-within}
 use Rattle.tariff.proofs.Others.{others-within}
 use Rattle.tariff.proofs.Reduced.{reduced-within}
@@ -49,30 +53,36 @@ idle-fits stop =
       others = within-zero 40000000000000000;
     }
 
-module _ (a : DayAhead) (v : Interval) (ea : aheadInRange a ≡ true) (ev : intervalInRange v ≡ true) where
-  ready-fits : exceedsRoom a v ≡ false → Fitting (readyTask a v)
-  ready-fits e =
+module _ (rt : Curve) (a : DayAhead) (v : Interval) (er : curveInRange rt ≡ true) (ea : aheadInRange a ≡ true) (ev : intervalInRange v ≡ true) where
+  ready-fits : (E : ℤ) → pointOf rt v ≡ known E → exceedsRoom a v ≡ false → Fitting (readyTask a v E)
+  ready-fits E p e =
       let g = interval-fits v ev in
       let close = reduced-within a v ea ev e in
       record {
         from = close 0 (omega arith);
-        limit = limit-within 2000000 (close 0 (omega arith)) (g .en) (g .eop) (capped-within (g .en) (g .ae) (g .co));
+        limit = limit-within 2000000 (close 0 (omega arith)) (g .en) (point-within rt v er (eop-fits v ev) E p) (capped-within (g .en) (g .ae) (g .co));
         pen = g .pen;
         s = g .s;
         beside = within-zero 4000000000000000;
         others = others-within a v ea ev close;
       }
 
-  task-fits : (place : ℕ) → Fitting (taskOf a v place)
-  task-fits place = task-cases Fitting a v place (λ _. idle-fits Nothing) (λ _ _. idle-fits (Fault (Derate place))) (λ _. ready-fits)
+  task-fits : (place : ℕ) → Fitting (taskOf rt a v place)
+  task-fits place =
+      task-cases Fitting rt a v place
+      (λ _. idle-fits Nothing)
+      (λ _ _. idle-fits (Fault (Point place)))
+      (λ _ _ _ _. idle-fits (Fault (Derate place)))
+      (λ _. ready-fits)
 
 -- a task is stopped at its own place
-task-placed : (a : DayAhead) (v : Interval) (place : ℕ) (check : Check) → taskOf a v place .stop ≡ Fault check → placeOf check ≡ place
-task-placed a v place check =
-    task-cases (λ t. t .stop ≡ Fault check → placeOf check ≡ place) a v place
+task-placed : (rt : Curve) (a : DayAhead) (v : Interval) (place : ℕ) (check : Check) → taskOf rt a v place .stop ≡ Fault check → placeOf check ≡ place
+task-placed rt a v place check =
+    task-cases (λ t. t .stop ≡ Fault check → placeOf check ≡ place) rt a v place
     (λ _ e. impossible cc)
-    (λ _ _ e. let same : Derate place ≡ check = cc in ap placeOf (sym same))
-    (λ _ _ e. impossible cc)
+    (λ _ _ e. let same : Point place ≡ check = cc in ap placeOf (sym same))
+    (λ _ _ _ _ e. let same : Derate place ≡ check = cc in ap placeOf (sym same))
+    (λ _ _ _ _ e. impossible cc)
 
 -- ---- the tasks of an hour, one after the other
 
@@ -117,16 +127,17 @@ module _ (p : Parts) (formed : formOf p ≡ clear) (expected : Expected) (ranged
 -- ---- a generator's
 
 module _ (h : Hour) (ok : (form h ≡ clear) × (expected : Expected) × (range h expected ≡ clear)) where
-  pub in-range : {i : ℕ} → i < h .n → (aheadInRange (h .ahead) ≡ true) × (intervalInRange (interval h i) ≡ true)
-  in-range {i} u = let r = range-says (partsOf h) (ok .1) (ok .2) in (r .1, r .4 i u)
+  pub in-range : {i : ℕ} → i < h .n → (h .rt .n ≤ 12) × (aheadInRange (h .ahead) ≡ true) × (intervalInRange (interval h i) ≡ true)
+  in-range {i} u = let r = range-says (partsOf h) (ok .1) (ok .2) in (form-says (partsOf h) (ok .0) .1, r .1, r .4 i u)
 
   asked-fits : (isExcluded : Bool) (i : ℕ) → i < h .n → Fitting (asked h isExcluded i)
   asked-fits true i u = idle-fits Nothing
-  asked-fits false i u = task-fits (h .ahead) (interval h i) (in-range u .0) (in-range u .1) (i + 1)
+  asked-fits false i u =
+      task-fits (h .rt) (h .ahead) (interval h i) (range-says (partsOf h) (ok .1) (ok .2) .3) (in-range u .1) (in-range u .2) (i + 1)
 
   asked-placed : (isExcluded : Bool) (i : ℕ) (check : Check) → asked h isExcluded i .stop ≡ Fault check → placeOf check ≡ i + 1
   asked-placed true i check e = impossible cc
-  asked-placed false i check e = task-placed (h .ahead) (interval h i) (i + 1) check e
+  asked-placed false i check e = task-placed (h .rt) (h .ahead) (interval h i) (i + 1) check e
 
   pub tasks-walkable : (isExcluded : Bool) {tasks : List Task} → TasksOf (asked h isExcluded) (h .n) tasks → Walkable tasks (h .n) (h .da) (h .rt)
   tasks-walkable isExcluded = walkable (partsOf h) (ok .0) (ok .1) (ok .2) (asked-fits isExcluded) (asked-placed isExcluded)

@@ -2,7 +2,7 @@
 use mathlib.Core.Path.{_≡_, refl, sym, ap, _∙_}
 use mathlib.Core.Bool.{Bool, true, false}
 use mathlib.Core.List.{List}
-use Prim.Native.Nat.{ℕ}
+use Prim.Native.Nat.{ℕ, _≤_}
 use lib.IntN.{ℤ, pos, negℤ, _+ℤ_, _-ℤ_, _*ℤ_, +ℤ-idl, +ℤ-idr}
 use lib.Signed.{ltZ, leZ}
 use Rattle.exact.specs.Choice.{if_then_else_}
@@ -20,13 +20,14 @@ use Rattle.tariff.specs.declared.Interval.{Interval}
 use Rattle.tariff.specs.declared.Hour.{Hour}
 use Rattle.tariff.specs.declared.IclHour.{IclHour}
 use Rattle.tariff.specs.declared.IclInterval.{IclInterval}
-use Rattle.tariff.specs.declared.Check.the-variants.{Derate}
+use Rattle.tariff.specs.declared.Check.the-variants.{Derate, Point}
 use Rattle.tariff.specs.declared.Found.the-variants.{Nothing, Fault}
 use Rattle.tariff.specs.Units.{kw, price, seconds, grains, grainsOf}
 use Rattle.tariff.specs.Curve.{Amount, known, none, change, quote, sumUp, integral}
 use Rattle.tariff.specs.Eligible.{lags}
 use Rattle.tariff.specs.Derate.{exceedsRoom, reduced}
-use Rattle.tariff.specs.Contributions.{isLower, limitOf, curveIn, lowerGrains, upperGrains, energyBy, energy, pointOf, cappedOf, lowerIn, limitIn, otherThanEnergy}
+use Rattle.tariff.specs.Point.{pointOf}
+use Rattle.tariff.specs.Contributions.{isLower, limitOf, curveIn, lowerGrains, upperGrains, energyBy, energy, cappedOf, lowerIn, limitIn, otherThanEnergy}
 use Rattle.tariff.specs.Hour.{withOthers, outcome}
 use Rattle.tariff.specs.Controllable.{iclIsLower, iclMargin, iclLowerGrains, iclUpperGrains, iclEnergy}
 use Rattle.tariff.specs.Outcome.{gives, orReach}
@@ -35,7 +36,11 @@ use Rattle.tariff.proofs.Limits.{within-if}
 use Rattle.tasks.specs.declared.Task.{Task}
 use Rattle.tasks.specs.Task.{idleTask, iclTask}
 use Rattle.derate.specs.Five.{kwFive, kwAt}
-use Rattle.intervals.specs.Task.{readyTask, taskOf, lowOf, highOf, costUp, signedCost, energyPart, finished, ofCost, ofTask, Fitting}
+use Rattle.points.specs.declared.Standing.{Standing}
+use Rattle.points.specs.declared.Standing.the-variants.{Lags, Pointless, At}
+use Rattle.points.specs.Standing.{standingOf}
+use Rattle.points.proofs.Stands.{standingBy, standing-is}
+use Rattle.intervals.specs.Task.{readyTask, deratedTask, pointedTask, taskOf, lowOf, highOf, costUp, signedCost, energyPart, finished, ofCost, ofTask, Fitting}
 
 -- ---- the integral from D to the limit, from the cost of the stretch taken upward
 
@@ -138,48 +143,75 @@ module _ (h : IclHour) (v : IclInterval) where
 
 -- ---- a task by its cases
 
-pub task-cases : (P : Task → Type 0) (a : DayAhead) (v : Interval) (place : ℕ)
+pub task-cases : (P : Task → Type 0) (rt : Curve) (a : DayAhead) (v : Interval) (place : ℕ)
     → (lags v ≡ true → P (idleTask Nothing))
-    → (lags v ≡ false → exceedsRoom a v ≡ true → P (idleTask (Fault (Derate place))))
-    → (lags v ≡ false → exceedsRoom a v ≡ false → P (readyTask a v))
-    → P (taskOf a v place)
-unfolding taskOf
-task-cases P a v place lagging stopped ready =
+    → (lags v ≡ false → pointOf rt v ≡ none → P (idleTask (Fault (Point place))))
+    → (lags v ≡ false → (E : ℤ) → pointOf rt v ≡ known E → exceedsRoom a v ≡ true → P (idleTask (Fault (Derate place))))
+    → (lags v ≡ false → (E : ℤ) → pointOf rt v ≡ known E → exceedsRoom a v ≡ false → P (readyTask a v E))
+    → P (taskOf rt a v place)
+unfolding taskOf deratedTask
+task-cases P rt a v place lagging pointless stopped ready =
     by-test (lags v)
-    (λ b. P (if b then idleTask Nothing else (if exceedsRoom a v then idleTask (Fault (Derate place)) else readyTask a v)))
+    (λ b. P (if b then idleTask Nothing else pointedTask place (pointOf rt v) (deratedTask a v place)))
     lagging
-    (λ l. by-test (exceedsRoom a v) (λ b. P (if b then idleTask (Fault (Derate place)) else readyTask a v)) (stopped l) (ready l))
+    (λ l. go l (pointOf rt v) refl)
+  where
+    go : lags v ≡ false → (x : Amount) → pointOf rt v ≡ x → P (pointedTask place x (deratedTask a v place))
+    go l none e = pointless l e
+    go l (known E) e = by-test (exceedsRoom a v) (λ b. P (if b then idleTask (Fault (Derate place)) else readyTask a v E)) (stopped l E e) (ready l E e)
 
 -- nothing is priced for a lagging interval
 pub idle-outcome : (da rt : Curve) → gives (pos 0) ≡ ofTask da rt (idleTask Nothing)
 unfolding costUp sumUp finished minℤ maxℤ span
 idle-outcome da rt = refl
 
-pub task-outcome : (h : Hour) (v : Interval) (place : ℕ) → outcome h v ≡ ofTask (h .da) (h .rt) (taskOf (h .ahead) v place)
+pub task-outcome : (h : Hour) (v : Interval) (place : ℕ) → outcome h v ≡ ofTask (h .da) (h .rt) (taskOf (h .rt) (h .ahead) v place)
 unfolding outcome taskBy
 task-outcome h v place =
-    task-cases (λ t. outcome h v ≡ ofTask (h .da) (h .rt) t) (h .ahead) v place
+    task-cases (λ t. outcome h v ≡ ofTask (h .da) (h .rt) t) (h .rt) (h .ahead) v place
     (λ l. rw l (idle-outcome (h .da) (h .rt)))
-    (λ l e. rw (l, e))
-    (λ l e. rw (l, e)
-    (energy-task (h .da) (h .rt) (reduced (h .ahead) v 0) (limitIn (h .ahead) v) (v .pen .0) (v .s .0) (otherThanEnergy (h .ahead) v) (lowerIn (h .ahead) v)))
+    (λ l p. rw (l, p))
+    (λ l E p e. rw (l, p, e))
+    (λ l E p e. rw (l, p, e)
+    (energy-task (h .da) (h .rt) (reduced (h .ahead) v 0) (limitIn (h .ahead) v E) (v .pen .0) (v .s .0) (otherThanEnergy (h .ahead) v) (lowerIn (h .ahead) v)))
+
+-- ---- the task that a standing asks for
+
+module _ (rt : Curve) (a : DayAhead) (v : Interval) (place : ℕ) where
+  abbrev pub askedAt : Standing → Task
+  askedAt Lags = idleTask Nothing
+  askedAt Pointless = idleTask (Fault (Point place))
+  askedAt (At e) = deratedTask a v place (e .0)
+
+  pub standing-asks : rt .n ≤ 12 → askedAt (standingOf rt v) ≡ taskOf rt a v place
+  unfolding taskOf
+  standing-asks u =
+      rw (standing-is rt v u)
+      (by-test (lags v)
+      (λ b. askedAt (if b then Lags else standingBy (pointOf rt v)) ≡ (if b then idleTask Nothing else pointedTask place (pointOf rt v) (deratedTask a v place)))
+      (λ e. refl)
+      (λ e. go (pointOf rt v)))
+    where
+      go : (x : Amount) → askedAt (standingBy x) ≡ pointedTask place x (deratedTask a v place)
+      go (known E) = refl
+      go none = refl
 
 -- ---- an interval's task, by its figures
 
-module _ (a : DayAhead) (v : Interval) (q : List Kw) (e : q ≡ kwFive (reduced a v)) where
+module _ (a : DayAhead) (v : Interval) (E : ℤ) (q : List Kw) (e : q ≡ kwFive (reduced a v)) where
   pub task-same : {lower : Bool} {limit counted : Kw} {others : Grains}
       → lower ≡ isLower (kwAt q 0) (v .en .0)
       → counted .0 ≡ cappedOf v
-      → limit .0 ≡ limitOf (kwAt q 0) (v .en .0) (pointOf v) (counted .0)
+      → limit .0 ≡ limitOf (kwAt q 0) (v .en .0) E (counted .0)
       → others .0 ≡ otherThanEnergy a v
-      → record { stop = Nothing; lower = lower; from = kw (kwAt q 0); limit = limit; pen = v .pen; s = v .s; beside = grains (pos 0); others = others } ≡ readyTask a v
+      → record { stop = Nothing; lower = lower; from = kw (kwAt q 0); limit = limit; pen = v .pen; s = v .s; beside = grains (pos 0); others = others } ≡ readyTask a v E
   task-same l c m o =
       λ i.
       record {
         stop = Nothing;
         lower = (l ∙ (λ j. isLower (kwAt (e j) 0) (v .en .0))) i;
         from = kw (kwAt (e i) 0);
-        limit = kw ((m ∙ (λ j. limitOf (kwAt (e j) 0) (v .en .0) (pointOf v) (c j))) i);
+        limit = kw ((m ∙ (λ j. limitOf (kwAt (e j) 0) (v .en .0) E (c j))) i);
         pen = v .pen;
         s = v .s;
         beside = grains (pos 0);

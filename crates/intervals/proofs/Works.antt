@@ -1,4 +1,4 @@
--- What checks 1 to 7 find and the intervals come to, by the way that the work ends.
+-- What every check of an hour but ROOM finds and the intervals come to, by the way that the work ends.
 use mathlib.Core.Path.{_≡_, refl, sym, ap, _∙_}
 use Prim.Native.Nat.{ℕ, _<_, _≤_}
 use Rattle.exact.specs.Whole.{sumTo}

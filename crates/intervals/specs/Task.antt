@@ -9,7 +9,7 @@ use lib.Signed.{ltZ}
 use Rattle.exact.specs.Choice.{if_then_else_}
 use Rattle.exact.specs.Whole.{minℤ, maxℤ, span, Within}
 use Rattle.tariff.specs.declared.Check.{Check}
-use Rattle.tariff.specs.declared.Check.the-variants.{Derate}
+use Rattle.tariff.specs.declared.Check.the-variants.{Derate, Point}
 use Rattle.tariff.specs.declared.Curve.{Curve}
 use Rattle.tariff.specs.declared.DayAhead.{DayAhead}
 use Rattle.tariff.specs.declared.Found.{Found}
@@ -21,6 +21,7 @@ use Rattle.tariff.specs.Units.{kw, grains, grainsOf}
 use Rattle.tariff.specs.Curve.{Amount, known, none, change, quote, sumUp}
 use Rattle.tariff.specs.Eligible.{lags}
 use Rattle.tariff.specs.Derate.{exceedsRoom, reduced}
+use Rattle.tariff.specs.Point.{pointOf}
 use Rattle.tariff.specs.Contributions.{curveIn, lowerIn, limitIn, otherThanEnergy}
 use Rattle.tariff.specs.Sheet.{curveInRange}
 use Rattle.tariff.specs.Reply.{REACH, numberOf, placeOf}
@@ -32,22 +33,31 @@ use Rattle.tasks.specs.Task.{idleTask, iclTaskOf}
 use Rattle.intervals.specs.declared.steps.Run.{Run}
 
 -- a generator counts nothing beside its energy inside the cap
-abbrev pub readyTask : DayAhead → Interval → Task
-readyTask a v =
+abbrev pub readyTask : DayAhead → Interval → (E : ℤ) → Task
+readyTask a v E =
     record {
       stop = Nothing;
       lower = lowerIn a v;
       from = kw (reduced a v 0);
-      limit = kw (limitIn a v);
+      limit = kw (limitIn a v E);
       pen = v .pen;
       s = v .s;
       beside = grains (pos 0);
       others = grains (otherThanEnergy a v);
     }
 
--- a lagging interval asks nothing, and one whose reduction exceeds the room is stopped at its place
-unfoldable pub taskOf : DayAhead → Interval → (place : ℕ) → Task
-taskOf a v place = if lags v then idleTask Nothing else (if exceedsRoom a v then idleTask (Fault (Derate place)) else readyTask a v)
+-- an interval whose reduction exceeds the room is stopped at its place
+unfoldable pub deratedTask : DayAhead → Interval → (place : ℕ) → (E : ℤ) → Task
+deratedTask a v place E = if exceedsRoom a v then idleTask (Fault (Derate place)) else readyTask a v E
+
+-- so is one without an operating point, before that
+abbrev pub pointedTask : (place : ℕ) → Amount → (ℤ → Task) → Task
+pointedTask place (known E) task = task E
+pointedTask place none task = idleTask (Fault (Point place))
+
+-- a lagging interval asks nothing
+unfoldable pub taskOf : (rt : Curve) → DayAhead → Interval → (place : ℕ) → Task
+taskOf rt a v place = if lags v then idleTask Nothing else pointedTask place (pointOf rt v) (deratedTask a v place)
 
 -- task i, from 0
 abbrev pub taskAt : List Task → ℕ → Task
@@ -55,7 +65,7 @@ taskAt tasks i = getD tasks i (idleTask Nothing)
 
 -- what interval i of an hour asks, from 0: of an excluded hour nothing
 abbrev pub asked : Hour → Bool → ℕ → Task
-asked h isExcluded i = if isExcluded then idleTask Nothing else taskOf (h .ahead) (interval h i) (i + 1)
+asked h isExcluded i = if isExcluded then idleTask Nothing else taskOf (h .rt) (h .ahead) (interval h i) (i + 1)
 
 -- and of an internal controllable line's
 abbrev pub iclAsked : IclHour → Bool → ℕ → Task

@@ -51,7 +51,7 @@ pub record ContributionsBy (block : Verdict) (outcome : ℕ → Outcome) (n : �
   pub sum : shown (r .found) ≡ clear → r .sum .0 ≡ sumBy outcome n
   pub refused : (check : Check) → r .found ≡ Fault check → r ≡ refusedBy (Fault check)
 
--- a generator's hour: checks 1 to 7
+-- a generator's hour: every check of an hour but ROOM
 abbrev pub ContributionsOf : Hour → Bool → Expected → Contributions → Type 0
 ContributionsOf h isExcluded expected = ContributionsBy (blockFault h expected) (outcomeAt h isExcluded) (h .n)
 

@@ -1,4 +1,4 @@
-// The contributions of an hour's intervals, behind checks 1 to 7: everything of the hour call but the lent row. So of a generator's hour and
+// The contributions of an hour's intervals, behind every check of an hour but ROOM: everything of the hour call but the lent row. So of a generator's hour and
 // of an internal controllable line's. And what the block of a curtailed import gives to its day, behind checks 1, 2, 3 and 5.
 ghost use mathlib.Core.Path.{_≡_};
 ghost use Prim.Native.Nat.{_≤_};
@@ -25,7 +25,7 @@ mod steps;
 mod sums;
 mod walk;
 
-// The first fault of checks 1 to 7; where there is none, the contributions of the hour's intervals, first to last, and their sum.
+// The first fault of every check of an hour but ROOM; where there is none, the contributions of the hour's intervals, first to last, and their sum.
 pub struct Contributions {
     pub found: Found,
     pub parts: [Grains; 30],
@@ -77,7 +77,7 @@ fn worked_out(tasks: [Task; 30], n: usize, da: Curve, rt: Curve) -> Contribution
     }
 }
 
-// Judges a record by checks 1 to 7 and works out its intervals. Any values in any field are judged.
+// Judges a record by every check of an hour but ROOM and works out its intervals. Any values in any field are judged.
 pub fn work_out(h: Hour, excluded: bool, expected: Expected) -> Contributions
     ensures { λ r. ⌜ ContributionsOf h excluded expected r ⌝ }
 {

@@ -1,4 +1,4 @@
-// The walk: one loop over what the intervals ask, with the scan of the curve's steps inside, up to the first fault of checks 6 and 7.
+// The walk: one loop over what the intervals ask, with the scan of the curve's steps inside, up to the first fault of checks 10, 6 and 7.
 ghost use mathlib.Core.Path.{_≡_};
 ghost use lib.IntN.{ℤ, _+ℤ_, _-ℤ_};
 ghost use Rattle.exact.specs.Whole.{Within};

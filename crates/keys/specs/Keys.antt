@@ -1,6 +1,6 @@
 -- The one table of keys, by kinds of lines and in the order in which the lines print them. A key's number is its place here.
 use mathlib.Core.Path.{_≡_, refl}
-use mathlib.Core.Bool.{Bool}
+use mathlib.Core.Bool.{Bool, _||_}
 use mathlib.Core.List.{List, [], _∷_, _++_}
 use Prim.Native.Nat.{ℕ, _+_}
 use lib.Dec.{eqb}
@@ -198,13 +198,16 @@ places : (DA ≡ AHEAD + length aheadKeys)
     × (KEYS ≡ length keys)
 places = (refl, refl, refl, refl, refl, refl, refl, refl, refl, refl, refl, refl, refl, refl, refl)
 
--- ---- the one key whose number may be missing, as a minus alone
+-- ---- the two keys whose number may be missing, as a minus alone
+
+abbrev pub EOP : ℕ
+EOP = 20
 
 abbrev pub UOL : ℕ
 UOL = 23
 
-its-key : keyOf UOL ≡ bytes " uol="
-its-key = refl
+their-keys : (keyOf EOP ≡ bytes " eop=") × (keyOf UOL ≡ bytes " uol=")
+their-keys = (refl, refl)
 
 abbrev pub mayMiss : ℕ → Bool
-mayMiss k = eqb k UOL
+mayMiss k = eqb k EOP || eqb k UOL

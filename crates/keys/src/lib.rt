@@ -1,7 +1,7 @@
 // The one table of keys: fixed byte strings, compared at the cursor. Every call takes any text, any place and any number.
 ghost use mathlib.Core.Path.{_≡_};
 ghost use Rattle.text.specs.Text.{keyAt};
-ghost use Rattle.keys.specs.Keys.{keyOf};
+ghost use Rattle.keys.specs.Keys.{keyOf, mayMiss};
 use text::Next;
 
 mod table;
@@ -62,8 +62,20 @@ pub const ICL_INTERVAL: usize = 65;
 // The count of all keys.
 pub const KEYS: usize = 71;
 
-// The one key whose number may be missing, `uol`.
+// The two keys whose number may be missing, `eop` and `uol`.
+pub const EOP: usize = 20;
+
 pub const UOL: usize = 23;
+
+// Whether a minus alone may stand for the number of key k.
+pub fn may_miss(k: usize) -> bool
+    ensures { λ r. ⌜ r ≡ mayMiss k ⌝ }
+{
+    if k == EOP {
+        return true;
+    }
+    k == UOL
+}
 
 // Key k at a place. A number past the table's is the empty key, which stands anywhere.
 pub fn key_number(s: &[u8], at: usize, k: usize) -> Next

@@ -16,7 +16,7 @@ use Rattle.tariff.specs.Reply.{paid, refused, ORDER, DERATE, REACH, clear, faul
 use Rattle.tariff.specs.Outcome.{replyBy}
 use Rattle.tariff.specs.Checks.{rangeIn, orderIn}
 use Rattle.tariff.specs.Hour.{range, reply}
-use Rattle.tariff.specs.Demand.{FirstUnpriced, UnpricedBeforeDerate, ExceededBeforeReach, Lawful, WholeHour, Extends}
+use Rattle.tariff.specs.Demand.{FirstUnpriced, SomeUnpriced, FirstExceeded, SomeExceeded, SamePoints, Lawful, WholeHour, Extends}
 use Rattle.tariff.specs.Total.{total, noTotal, totalOf, Pays, paidCents}
 use Rattle.tariff.proofs.Demands.{order-exactly-when-another-hour}
 use Rattle.tariff.proofs.Totals.{total-paid, total-refused, total-surplus}
@@ -30,6 +30,7 @@ use Rattle.sheet.specs.Apart.{CurvesApart}
 use Rattle.sheet.proofs.ReadHours.{read-sound}
 use Rattle.sheet.proofs.BlockDemands.{
   block-reach-exactly-when-unpriced,
+  block-derate-exactly-when-exceeded,
   block-refused-for-reach-exactly-when-some-kilowatt-is-unpriced,
   block-refused-for-derate-exactly-when-some-reduction-exceeds,
 }
@@ -101,7 +102,7 @@ its-own-hour-is-as-any f kind e few k h u x own =
 -- ---- demand 3
 
 -- REACH is given exactly when no check from 1 to 5 refuses and a kilowatt that must be priced has no price: at the first interval that
--- has one, and where no DERATE stands at or before it.
+-- has one, and where no POINT and no DERATE comes first.
 pub reach-of-an-hour-exactly-when-unpriced :
     (f : Front)
     → f .answer ≡ generatorAnswer
@@ -114,30 +115,42 @@ reach-of-an-hour-exactly-when-unpriced f kind e k i h x =
     (block-reach-exactly-when-unpriced (piece k (f .body)) h (f .isExcluded k) (Says (pos k) (f .hours)) 30 i x)
 
 -- So an hour of a day is refused for reach exactly when no check from 1 to 5 refuses it, a kilowatt that some interval must price has no
--- price, and no derate refusal falls in that interval or before it.
+-- price, and no point or derate refusal comes before that interval.
 pub an-hour-is-refused-for-reach-exactly-when-some-kilowatt-is-unpriced :
     (f : Front)
     → f .answer ≡ generatorAnswer
     → f .fault ≡ clear
     → (k : ℕ) (h : Hour)
     → blockOf (piece k (f .body)) ≡ read h
-    → ((place : ℕ) × (dayReply f k ≡ refused REACH place)) ↔ (WholeHour h (Says (pos k) (f .hours)) × UnpricedBeforeDerate h (f .isExcluded k))
+    → ((place : ℕ) × (dayReply f k ≡ refused REACH place)) ↔ (WholeHour h (Says (pos k) (f .hours)) × SomeUnpriced h (f .isExcluded k))
 an-hour-is-refused-for-reach-exactly-when-some-kilowatt-is-unpriced f kind e k h x =
     rw (an-hour-of-a-day-is-its-blocks f kind e k 30 (omega arith))
     (block-refused-for-reach-exactly-when-some-kilowatt-is-unpriced (piece k (f .body)) h (f .isExcluded k) (Says (pos k) (f .hours)) 30 x)
 
 -- And for derate exactly when no check from 1 to 5 refuses it, the reduction of some eligible interval exceeds the room for it, and no
--- reach refusal falls before that interval.
+-- point or reach refusal comes before that interval.
 pub an-hour-is-refused-for-derate-exactly-when-some-reduction-exceeds :
     (f : Front)
     → f .answer ≡ generatorAnswer
     → f .fault ≡ clear
     → (k : ℕ) (h : Hour)
     → blockOf (piece k (f .body)) ≡ read h
-    → ((place : ℕ) × (dayReply f k ≡ refused DERATE place)) ↔ (WholeHour h (Says (pos k) (f .hours)) × ExceededBeforeReach h (f .isExcluded k))
+    → ((place : ℕ) × (dayReply f k ≡ refused DERATE place)) ↔ (WholeHour h (Says (pos k) (f .hours)) × SomeExceeded h (f .isExcluded k))
 an-hour-is-refused-for-derate-exactly-when-some-reduction-exceeds f kind e k h x =
     rw (an-hour-of-a-day-is-its-blocks f kind e k 30 (omega arith))
     (block-refused-for-derate-exactly-when-some-reduction-exceeds (piece k (f .body)) h (f .isExcluded k) (Says (pos k) (f .hours)) 30 x)
+
+-- Its place is the first such interval, where no POINT and no REACH comes first.
+pub derate-of-an-hour-exactly-when-exceeded :
+    (f : Front)
+    → f .answer ≡ generatorAnswer
+    → f .fault ≡ clear
+    → (k i : ℕ) (h : Hour)
+    → blockOf (piece k (f .body)) ≡ read h
+    → (dayReply f k ≡ refused DERATE (i + 1)) ↔ (WholeHour h (Says (pos k) (f .hours)) × FirstExceeded h (f .isExcluded k) i)
+derate-of-an-hour-exactly-when-exceeded f kind e k i h x =
+    rw (an-hour-of-a-day-is-its-blocks f kind e k 30 (omega arith))
+    (block-derate-exactly-when-exceeded (piece k (f .body)) h (f .isExcluded k) (Says (pos k) (f .hours)) 30 i x)
 
 -- Two days with the same headers, whose blocks differ in their curve lines only, are two such days.
 pub days-with-the-same-headers-are-apart :
@@ -163,9 +176,9 @@ days-with-the-same-headers-are-apart heads body other e alone blocks rest =
       surplus = (λ i. restAfter (one .hours i) (behind-one i)) ∙ rest ∙ (λ i. restAfter (sym (two .hours) i) (sym behind-two i));
     }
 
--- Only the prices of the kilowatts between D and the limit matter: two days whose blocks differ in their curve lines only, and whose hours
--- are the same, or refused by no check from 1 to 4 and with prices that agree on every kilowatt that must be priced, have the same
--- answers and the same total.
+-- Only the prices of the kilowatts between D and the limit matter, and the points that the curve is asked for: two days whose blocks differ in
+-- their curve lines only, and whose hours are the same, or refused by no check from 1 to 4, with the same points and with prices that agree on
+-- every kilowatt that must be priced, have the same answers and the same total.
 pub only-needed-prices-of-a-day-matter :
     (f g : Front)
     → DaysApart f g
@@ -173,8 +186,8 @@ pub only-needed-prices-of-a-day-matter :
     → SettledAlike f g
 only-needed-prices-of-a-day-matter f g d alike = hours-settled generatorAnswer generator-decides CurvesApart f g d (λ k u. blocks-alike _ _ _ _ (d .blocks k u) (alike k u))
 
--- Adding curve to a paid hour of a day never moves a cent, where the longer curves break no rule of checks 1 to 4: with every price that
--- its curves had, and perhaps more, it pays the same.
+-- Adding curve to a paid hour of a day never moves a cent, where the longer curves break no rule of checks 1 to 4 and leave each point that the
+-- curve is asked for: with every price that its curves had, and perhaps more, it pays the same.
 pub adding-curve-to-an-hour-changes-nothing :
     (f g : Front)
     → DaysApart f g
@@ -186,19 +199,20 @@ pub adding-curve-to-an-hour-changes-nothing :
     → Lawful j (Says (pos k) (f .hours))
     → Extends (h .da) (j .da)
     → Extends (h .rt) (j .rt)
+    → SamePoints h j (f .isExcluded k)
     → (sum cents : ℤ)
     → dayReply f k ≡ paid sum cents
     → dayReply g k ≡ paid sum cents
-adding-curve-to-an-hour-changes-nothing f g d k u h j x y c da rt sum cents p =
+adding-curve-to-an-hour-changes-nothing f g d k u h j x y c da rt points sum cents p =
     other-hour generatorAnswer generator-decides CurvesApart f g d k u
-    ∙ blocks-extended _ _ _ _ (d .blocks k u) h j x y sum cents (c, da, rt) (sym (one-hour generatorAnswer generator-decides CurvesApart f g d k u) ∙ p)
+    ∙ blocks-extended _ _ _ _ (d .blocks k u) h j x y sum cents (c, da, rt, points) (sym (one-hour generatorAnswer generator-decides CurvesApart f g d k u) ∙ p)
 
 -- So adding curve to any hours of a day whose hours are all paid changes no answer and not the total.
 pub adding-curve-to-a-day-changes-nothing :
     (f g : Front)
     → DaysApart f g
     → ((k : ℕ) → k < f .hours → Pays (dayReply f k))
-    → BothRead f g (λ k h j. Lawful j (Says (pos k) (f .hours)) × Extends (h .da) (j .da) × Extends (h .rt) (j .rt))
+    → BothRead f g (λ k h j. Lawful j (Says (pos k) (f .hours)) × Extends (h .da) (j .da) × Extends (h .rt) (j .rt) × SamePoints h j (f .isExcluded k))
     → SettledAlike f g
 adding-curve-to-a-day-changes-nothing f g d pays longer =
     hours-settled generatorAnswer generator-decides CurvesApart f g d

@@ -35,7 +35,7 @@ module _ (s t : List ℕ) (isExcluded : Bool) (expected : Expected) where
     where
       go : IclCurvesApart s t → (h g : IclHour) → iclBlockOf s ≡ read h → iclBlockOf t ≡ read g → IclPricedAlike h g isExcluded expected → Same
       go o h g x y (one e) = rw (x, y, e)
-      go o h g x y (priced c d e) = icl-only-needed-prices-of-blocks-matter s t h g isExcluded expected row o x y c d e .0
+      go o h g x y (priced c d p e) = icl-only-needed-prices-of-blocks-matter s t h g isExcluded expected row o x y c d e .0
 
   adding : IclCurvesApart s t → (h g : IclHour) → iclBlockOf s ≡ read h → iclBlockOf t ≡ read g → (sum cents : ℤ) → Longer h g
       → iclReplyTo (iclBlockOf s) isExcluded expected 30 ≡ paid sum cents → iclReplyTo (iclBlockOf t) isExcluded expected 30 ≡ paid sum cents

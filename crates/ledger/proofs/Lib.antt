@@ -19,5 +19,6 @@ pub mod BlocksApart
 pub mod IclBlocksApart
 pub mod TwoDays
 pub mod DayDemands
+pub mod DayPoints
 pub mod MidnightDemands
 pub mod IclDayDemands

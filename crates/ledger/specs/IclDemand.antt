@@ -20,5 +20,6 @@ IclDaysApart = DaysOf iclAnswer IclCurvesApart
 abbrev pub IclBothRead : (f g : Front) → (ℕ → IclHour → IclHour → Type 0) → Type 0
 IclBothRead = BothReadBy iclBlockOf
 
+-- a controllable line has no operating point to share
 abbrev pub IclPricedAlike : (h g : IclHour) → (isExcluded : Bool) → Expected → Type 0
-IclPricedAlike h g isExcluded expected = PricedBy (λ x. IclLawful x expected) (λ x. IclMustPrice x isExcluded) iclPriceIn h g
+IclPricedAlike h g isExcluded expected = PricedBy (λ x. IclLawful x expected) (λ x y. Unit {0}) (λ x. IclMustPrice x isExcluded) iclPriceIn h g

@@ -1,4 +1,4 @@
--- The lent row: what is answered to an hour of n intervals that checks 1 to 7 do not refuse, and what the row then holds.
+-- The lent row: what is answered to an hour of n intervals that no check but ROOM refuses, and what the row then holds.
 use mathlib.Core.Bool.{Bool, _&&_}
 use mathlib.Core.List.{List, _++_, map}
 use Prim.Native.Nat.{ℕ}

@@ -1,5 +1,6 @@
 -- A text that stands in another at a place: its parts, its keys and its numbers are read.
 use mathlib.Core.Path.{_≡_, ap, _∙_}
+use mathlib.Core.Bool.{true}
 use mathlib.Core.List.{List, [], _∷_, _++_}
 use Prim.Native.Nat.{ℕ, zero, suc, _+_, _-_, _*_, _/_, _%_, _^_, _≤_, _<_}
 use native.Mathlib.Nat.{add-zero, add-assoc, pow-suc}
@@ -15,7 +16,7 @@ use Rattle.exact.proofs.Apart.{impossible}
 use Rattle.exact.proofs.Parts.{by-test}
 use Rattle.text.specs.Text.{byteAt, keyAt}
 use Rattle.text.specs.Number.{digitOf, digitAt, moreDigits, naturalAt, numberAt, missing}
-use Rattle.keys.specs.Keys.{UOL, mayMiss}
+use Rattle.keys.specs.Keys.{mayMiss}
 use Rattle.lines.specs.Line.{orMissing, valueAt}
 use Rattle.text.specs.Decimal.{natural, number}
 use Rattle.text.specs.declared.digits.Digits.the-variants.{Natural, NoDigits}
@@ -142,7 +143,7 @@ number-said k (negsuc n) w s at o e =
     let q : at + 1 + length (natural 7 (suc n)) ≡ at + suc (length (natural 7 (suc n))) = omega arith in
     value-said k s at (negsuc n) _ (negative-said s at n _ (o .0) (natural-said s (suc n) (at + 1) (omega arith) (omega arith) (o .1) (rw q e) ∙ ap (Natural (suc n)) q))
 
--- only `uol` may be missing
-pub missing-said : Says UOL (45 ∷ []) missing
+-- a minus alone, where a number may be missing
+pub missing-said : (k : ℕ) → mayMiss k ≡ true → Says k (45 ∷ []) missing
 unfolding valueAt numberAt naturalAt
-missing-said s at o e = let m = eq-eqb (byteAt s at) 45 (o .0) in rw (m, e, m)
+missing-said k may s at o e = let m = eq-eqb (byteAt s at) 45 (o .0) in rw (may, m, e, m)

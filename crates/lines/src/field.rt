@@ -7,12 +7,12 @@ use crate::Fields;
 use text::Next;
 use text::Number;
 
-// The value behind key k. Only that of `uol` may be missing.
+// The value behind key k. Those of `eop` and `uol` may be missing.
 pub fn value_at(s: &[u8], at: usize, k: usize) -> Number
     ensures { λ r. ⌜ r ≡ valueAt k (now (s .entry)) at ⌝ }
 {
     let n = text::number_at(s, at);
-    if k != keys::UOL {
+    if !keys::may_miss(k) {
         return n;
     }
     if let Number::Got(_, _) = n {

@@ -1,7 +1,7 @@
 // The range of each number of a record: of an hour's, of an internal controllable line's, and of an import's. Any values are judged: nothing is asked of the caller.
 ghost use mathlib.Core.Path.{_≡_};
 ghost use mathlib.Core.Bool.{_&&_};
-ghost use Rattle.tariff.specs.Sheet.{isCount, hoursBy, isSeconds, isHour, isPower, isCapacity, isBid, isPrice, curveInRange, uolInRange, aheadInRange, intervalInRange, isMark};
+ghost use Rattle.tariff.specs.Sheet.{isCount, hoursBy, isSeconds, isHour, isPower, isCapacity, isBid, isPrice, curveInRange, uolInRange, eopInRange, aheadInRange, intervalInRange, isMark};
 ghost use Rattle.tariff.specs.Controllable.{iclAheadInRange, iclIntervalInRange};
 use tariff::Curve;
 use tariff::DayAhead;
@@ -9,10 +9,10 @@ use tariff::IclInterval;
 use tariff::Interval;
 use tariff::Kw;
 use tariff::LONGEST_DAY;
+use tariff::MaybeKw;
 use tariff::MovePrice;
 use tariff::Price;
 use tariff::Seconds;
-use tariff::Uol;
 
 // Whether a day can have so many hours.
 pub fn is_count(count: i64) -> bool
@@ -124,20 +124,31 @@ pub fn curve_in_range(c: Curve) -> bool
     true
 }
 
-fn uol_in_range(u: Uol) -> bool
+// Neither `uol` nor `eop` has a range to keep where the sheet leaves it out.
+fn uol_in_range(u: MaybeKw) -> bool
     ensures { λ r. ⌜ r ≡ uolInRange u ⌝ }
 {
     match u {
-        Uol::Missing => true,
-        Uol::At(limit) => is_capacity(limit),
+        MaybeKw::Missing => true,
+        MaybeKw::At(limit) => is_capacity(limit),
+    }
+}
+
+fn eop_in_range(e: MaybeKw) -> bool
+    ensures { λ r. ⌜ r ≡ eopInRange e ⌝ }
+{
+    match e {
+        MaybeKw::Missing => true,
+        MaybeKw::At(point) => is_power(point),
     }
 }
 
 // The numbers of an interval that are power.
 fn powers_in_range(v: Interval) -> bool
-    ensures { λ r. ⌜ r ≡ (isPower (v .en .0) && isPower (v .ae .0) && isPower (v .eop .0) && isPower (v .lim .0)) ⌝ }
+    ensures { λ r. ⌜ r ≡ (isPower (v .en .0) && isPower (v .ae .0) && eopInRange (v .eop) && isPower (v .lim .0)) ⌝ }
 {
-    is_power(v.en) & is_power(v.ae) & is_power(v.eop) & is_power(v.lim)
+    let eop = v.eop;
+    is_power(v.en) & is_power(v.ae) & eop_in_range(eop) & is_power(v.lim)
 }
 
 fn capacities_in_range(v: Interval) -> bool

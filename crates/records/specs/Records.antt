@@ -3,8 +3,8 @@ use Prim.Native.Nat.{ℕ}
 use lib.IntN.{ℤ}
 use Rattle.exact.specs.Choice.{if_then_else_}
 use Rattle.exact.specs.Whole.{eqZ}
-use Rattle.tariff.specs.declared.Uol.{Uol}
-use Rattle.tariff.specs.declared.Uol.the-variants as uol
+use Rattle.tariff.specs.declared.MaybeKw.{MaybeKw}
+use Rattle.tariff.specs.declared.MaybeKw.the-variants as maybe
 use Rattle.tariff.specs.declared.DayAhead.{DayAhead}
 use Rattle.tariff.specs.declared.Interval.{Interval}
 use Rattle.tariff.specs.declared.Curtailed.{Curtailed}
@@ -27,9 +27,9 @@ aheadOf v =
       b3 = price (v 9);
     }
 
--- an interval line
-abbrev pub uolOf : ℤ → Uol
-uolOf v = if eqZ v missing then uol.Missing else uol.At (kw v)
+-- an interval line, of which `uol` and `eop` may be missing
+abbrev pub maybeOf : ℤ → MaybeKw
+maybeOf v = if eqZ v missing then maybe.Missing else maybe.At (kw v)
 
 abbrev pub intervalOf : (ℕ → ℤ) → Interval
 intervalOf v =
@@ -38,10 +38,10 @@ intervalOf v =
       en = kw (v 1);
       ae = kw (v 2);
       co = kw (v 3);
-      eop = kw (v 4);
+      eop = maybeOf (v 4);
       pen = price (v 5);
       lim = kw (v 6);
-      uol = uolOf (v 7);
+      uol = maybeOf (v 7);
       r1 = kw (v 8);
       r2 = kw (v 9);
       r3 = kw (v 10);

@@ -5,16 +5,16 @@ ghost use lib.ListN.{getD};
 ghost use Rattle.tariff.specs.Hour.{blank};
 ghost use Rattle.tariff.specs.Import.{blankCurtailed};
 ghost use Rattle.tariff.specs.Controllable.{blankIcl};
-ghost use Rattle.records.specs.Records.{uolOf, aheadOf, intervalOf, curtailedOf, iclIntervalOf};
+ghost use Rattle.records.specs.Records.{maybeOf, aheadOf, intervalOf, curtailedOf, iclIntervalOf};
 use tariff::Curtailed;
 use tariff::DayAhead;
 use tariff::IclInterval;
 use tariff::Interval;
 use tariff::Kw;
+use tariff::MaybeKw;
 use tariff::MovePrice;
 use tariff::Price;
 use tariff::Seconds;
-use tariff::Uol;
 
 // Line 1 of an hour block; its first number is the hour.
 pub fn ahead_of(v: [i64; 20]) -> DayAhead
@@ -33,14 +33,14 @@ pub fn ahead_of(v: [i64; 20]) -> DayAhead
     }
 }
 
-// 10,000,000, which seven digits cannot say, stands for `uol=-`.
-fn uol_of(v: i64) -> Uol
-    ensures { λ r. ⌜ r ≡ uolOf v ⌝ }
+// 10,000,000, which seven digits cannot say, stands for `uol=-` and for `eop=-`.
+fn maybe_of(v: i64) -> MaybeKw
+    ensures { λ r. ⌜ r ≡ maybeOf v ⌝ }
 {
     if v == 10000000 {
-        Uol::Missing
+        MaybeKw::Missing
     } else {
-        Uol::At(Kw(v))
+        MaybeKw::At(Kw(v))
     }
 }
 
@@ -53,10 +53,10 @@ pub fn interval_of(v: [i64; 20]) -> Interval
         en: Kw(v[1]),
         ae: Kw(v[2]),
         co: Kw(v[3]),
-        eop: Kw(v[4]),
+        eop: maybe_of(v[4]),
         pen: Price(v[5]),
         lim: Kw(v[6]),
-        uol: uol_of(v[7]),
+        uol: maybe_of(v[7]),
         r1: Kw(v[8]),
         r2: Kw(v[9]),
         r3: Kw(v[10]),
@@ -81,10 +81,10 @@ pub fn blank_interval() -> Interval
         en: Kw(0),
         ae: Kw(0),
         co: Kw(0),
-        eop: Kw(0),
+        eop: MaybeKw::Missing,
         pen: Price(0),
         lim: Kw(0),
-        uol: Uol::Missing,
+        uol: MaybeKw::Missing,
         r1: Kw(0),
         r2: Kw(0),
         r3: Kw(0),

@@ -10,7 +10,7 @@ use Rattle.tariff.specs.declared.Hour.{Hour}
 use Rattle.tariff.specs.declared.Expected.{Expected}
 use Rattle.tariff.specs.Reply.{clear, paid, refused, FORM, DERATE, REACH}
 use Rattle.tariff.specs.Hour.{form, range}
-use Rattle.tariff.specs.Demand.{MustPrice, priceIn, FirstUnpriced, FirstExceeded, UnpricedBeforeDerate, ExceededBeforeReach, Alike, Lawful, WholeHour, Extends}
+use Rattle.tariff.specs.Demand.{MustPrice, priceIn, FirstUnpriced, SomeUnpriced, FirstExceeded, SomeExceeded, SamePoints, Alike, Lawful, WholeHour, Extends}
 use Rattle.tariff.proofs.Checks.{never-clear}
 use Rattle.tariff.proofs.Demands.{
   only-needed-prices-matter,
@@ -45,8 +45,9 @@ curves-apart-break-alike = apart-broken
 
 -- ---- demand 3
 
--- Only the prices of the kilowatts between D and the limit matter: two blocks that differ in their curve lines only, that no
--- check from 1 to 4 refuses, and whose prices agree on every kilowatt that must be priced, have one reply and one row.
+-- Only the prices of the kilowatts between D and the limit matter, and the points that the curve is asked for: two blocks that differ in their
+-- curve lines only, that no check from 1 to 4 refuses, that share the point of each eligible interval with `eop=-`, or both lack it, and whose
+-- prices agree on every kilowatt that must be priced, have one reply and one row.
 pub only-needed-prices-of-blocks-matter :
     (s t : List ℕ) (h g : Hour) (isExcluded : Bool) (expected : Expected) (row : List ℤ)
     → CurvesApart s t
@@ -54,13 +55,14 @@ pub only-needed-prices-of-blocks-matter :
     → blockOf t ≡ read g
     → Lawful h expected
     → Lawful g expected
+    → SamePoints h g isExcluded
     → ((i : ℕ) (k : ℤ) → MustPrice h isExcluded i k → priceIn h i k ≡ priceIn g i k)
     → (replyTo (blockOf s) isExcluded expected (length row) ≡ replyTo (blockOf t) isExcluded expected (length row)) × (rowTo (blockOf s) isExcluded expected row ≡ rowTo (blockOf t) isExcluded expected row)
-only-needed-prices-of-blocks-matter s t h g isExcluded expected row o x y f f′ prices =
-    rw (x, y) (only-needed-prices-matter h g isExcluded expected row (curves-apart-are-alike s t o h g x y) f f′ prices)
+only-needed-prices-of-blocks-matter s t h g isExcluded expected row o x y f f′ points prices =
+    rw (x, y) (only-needed-prices-matter h g isExcluded expected row (curves-apart-are-alike s t o h g x y) f f′ points prices)
 
 -- REACH is given exactly when no check from 1 to 5 refuses and a kilowatt that must be priced has no price: at the first interval that
--- has one, and where no DERATE stands at or before it.
+-- has one, and where no POINT and no DERATE comes first.
 pub block-reach-exactly-when-unpriced :
     (s : List ℕ) (h : Hour) (isExcluded : Bool) (expected : Expected) (room i : ℕ)
     → blockOf s ≡ read h
@@ -68,7 +70,7 @@ pub block-reach-exactly-when-unpriced :
 block-reach-exactly-when-unpriced s h isExcluded expected room i x = rw x (reach-exactly-when-unpriced h isExcluded expected room i)
 
 -- DERATE is given exactly when no check from 1 to 5 refuses and the reduction of an eligible interval exceeds the room for it: at the
--- first such interval, and where no REACH stands before it.
+-- first such interval, and where no POINT and no REACH comes first.
 pub block-derate-exactly-when-exceeded :
     (s : List ℕ) (h : Hour) (isExcluded : Bool) (expected : Expected) (room i : ℕ)
     → blockOf s ≡ read h
@@ -76,25 +78,25 @@ pub block-derate-exactly-when-exceeded :
 block-derate-exactly-when-exceeded s h isExcluded expected room i x = rw x (derate-exactly-when-exceeded h isExcluded expected room i)
 
 -- So a block is refused for reach exactly when no check from 1 to 5 refuses it, a kilowatt that some interval must price has no price, and
--- no derate refusal falls in that interval or before it.
+-- no point or derate refusal comes before that interval.
 pub block-refused-for-reach-exactly-when-some-kilowatt-is-unpriced :
     (s : List ℕ) (h : Hour) (isExcluded : Bool) (expected : Expected) (room : ℕ)
     → blockOf s ≡ read h
-    → ((place : ℕ) × (replyTo (blockOf s) isExcluded expected room ≡ refused REACH place)) ↔ (WholeHour h expected × UnpricedBeforeDerate h isExcluded)
+    → ((place : ℕ) × (replyTo (blockOf s) isExcluded expected room ≡ refused REACH place)) ↔ (WholeHour h expected × SomeUnpriced h isExcluded)
 block-refused-for-reach-exactly-when-some-kilowatt-is-unpriced s h isExcluded expected room x =
     rw x (refused-for-reach-exactly-when-some-kilowatt-is-unpriced h isExcluded expected room)
 
 -- And for derate exactly when no check from 1 to 5 refuses it, the reduction of some eligible interval exceeds the room for it, and no
--- reach refusal falls before that interval.
+-- point or reach refusal comes before that interval.
 pub block-refused-for-derate-exactly-when-some-reduction-exceeds :
     (s : List ℕ) (h : Hour) (isExcluded : Bool) (expected : Expected) (room : ℕ)
     → blockOf s ≡ read h
-    → ((place : ℕ) × (replyTo (blockOf s) isExcluded expected room ≡ refused DERATE place)) ↔ (WholeHour h expected × ExceededBeforeReach h isExcluded)
+    → ((place : ℕ) × (replyTo (blockOf s) isExcluded expected room ≡ refused DERATE place)) ↔ (WholeHour h expected × SomeExceeded h isExcluded)
 block-refused-for-derate-exactly-when-some-reduction-exceeds s h isExcluded expected room x =
     rw x (refused-for-derate-exactly-when-some-reduction-exceeds h isExcluded expected room)
 
--- Adding curve to a paid block never moves a cent, where the longer curves break no rule of checks 1 to 4: with every price that its
--- curves had, and perhaps more, it pays the same and leaves the same row.
+-- Adding curve to a paid block never moves a cent, where the longer curves break no rule of checks 1 to 4 and leave each point that the curve
+-- is asked for: with every price that its curves had, and perhaps more, it pays the same and leaves the same row.
 pub adding-curve-to-a-block-changes-nothing :
     (s t : List ℕ) (h g : Hour) (isExcluded : Bool) (expected : Expected) (row : List ℤ)
     → CurvesApart s t
@@ -104,10 +106,11 @@ pub adding-curve-to-a-block-changes-nothing :
     → Lawful g expected
     → Extends (h .da) (g .da)
     → Extends (h .rt) (g .rt)
+    → SamePoints h g isExcluded
     → replyTo (blockOf s) isExcluded expected (length row) ≡ paid sum cents
     → (replyTo (blockOf t) isExcluded expected (length row) ≡ paid sum cents) × (rowTo (blockOf t) isExcluded expected row ≡ rowTo (blockOf s) isExcluded expected row)
-adding-curve-to-a-block-changes-nothing s t h g isExcluded expected row o x y sum cents f da rt e =
-    rw (x, y) (adding-curve-changes-nothing h g isExcluded expected row sum cents (curves-apart-are-alike s t o h g x y) f da rt (rw x at e))
+adding-curve-to-a-block-changes-nothing s t h g isExcluded expected row o x y sum cents f da rt points e =
+    rw (x, y) (adding-curve-changes-nothing h g isExcluded expected row sum cents (curves-apart-are-alike s t o h g x y) f da rt points (rw x at e))
 
 -- ---- the end of a block, and its lines
 

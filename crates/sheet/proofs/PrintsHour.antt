@@ -1,6 +1,6 @@
 -- The text of an hour's record is read to that record.
 use mathlib.Core.Path.{_≡_, refl, ap, _∙_}
-use mathlib.Core.Bool.{true, false}
+use mathlib.Core.Bool.{Bool, true, false}
 use mathlib.Core.List.{List, [], _∷_}
 use Prim.Native.Nat.{ℕ, zero, suc, _+_, _≤_, _<_}
 use native.Mathlib.Decide.{decLt}
@@ -11,41 +11,62 @@ use lib.Dec.{T, leb}
 use lib.IntN.{ℤ, pos}
 use lib.ListN.{length, getD}
 use Rattle.exact.specs.Whole.{upTo, Within}
+use Rattle.exact.proofs.Apart.{impossible}
 use Rattle.exact.proofs.Parts.{false-eqZ}
 use Rattle.exact.proofs.Range.{within-lit}
 use Rattle.exact.proofs.Sums.{up-same}
-use Rattle.tariff.specs.declared.Uol.{Uol}
-use Rattle.tariff.specs.declared.Uol.the-variants as uol
+use Rattle.tariff.specs.declared.Kw.{Kw}
+use Rattle.tariff.specs.declared.MaybeKw.{MaybeKw}
+use Rattle.tariff.specs.declared.MaybeKw.the-variants as maybe
 use Rattle.tariff.specs.declared.Interval.{Interval}
 use Rattle.tariff.specs.declared.Hour.{Hour}
-use Rattle.tariff.specs.Sheet.{uolInRange, intervalInRange}
+use Rattle.tariff.specs.Sheet.{isPower, isCapacity, givenIn, intervalInRange}
 use Rattle.tariff.specs.Hour.{interval}
-use Rattle.tariff.proofs.Ranges.{AheadFits, IntervalFits, interval-fits, uol-fits, capacity-within}
+use Rattle.tariff.proofs.Ranges.{AheadFits, IntervalFits, interval-fits, eop-fits, uol-fits, power-within, capacity-within}
 use Rattle.text.specs.Number.{missing}
-use Rattle.keys.specs.Keys.{AHEAD, INTERVAL, UOL}
+use Rattle.keys.specs.Keys.{AHEAD, INTERVAL, mayMiss}
 use Rattle.lines.specs.Line.{valueIn, closes}
 use Rattle.lines.specs.Series.{seriesPlace, seriesIn, lineCount, seriesAt}
-use Rattle.records.specs.Records.{aheadOf, uolOf, intervalOf}
+use Rattle.records.specs.Records.{aheadOf, maybeOf, intervalOf}
 use Rattle.blocks.specs.Block.{intervalLine, intervalSaid, intervalAt}
 use Rattle.text.specs.Decimal.{number}
 use Rattle.lines.specs.Print.{fields, line}
-use Rattle.sheet.specs.Print.{uolText, aheadTexts, amountTexts, intervalsText}
+use Rattle.sheet.specs.Print.{maybeText, aheadTexts, amountTexts, intervalsText}
 use Rattle.text.specs.declared.Next.the-variants.{At}
 use Rattle.lines.proofs.Holds.{Holds, holds-split, after-both, Says, number-said, missing-said}
 use Rattle.lines.proofs.Prints.{AllSay, nothing, _and_, say-at, line-said}
 
 -- ---- the numbers of a line, and the record that they make
-abbrev limitValue : Uol → ℤ
-limitValue uol.Missing = missing
-limitValue (uol.At k) = k .0
+abbrev maybeValue : MaybeKw → ℤ
+maybeValue maybe.Missing = missing
+maybeValue (maybe.At k) = k .0
 
-limit-said : (u : Uol) → uolInRange u ≡ true → Says UOL (uolText u) (limitValue u)
-limit-said uol.Missing e = missing-said
-limit-said (uol.At k) e = number-said UOL (k .0) (within-lit tt (capacity-within e))
+-- what is missing has no range, and what is not, the range of power at most
+Small : MaybeKw → Type 0
+Small m = (k : Kw) → m ≡ maybe.At k → Within 2000000 (k .0)
 
-limit-back : (u : Uol) → uolInRange u ≡ true → uolOf (limitValue u) ≡ u
-limit-back uol.Missing e = refl
-limit-back (uol.At k) e = let w : Within 2000000 (k .0) = capacity-within e in rw (false-eqZ (k .0) missing (λ z. let q = rw z at w in omega arith))
+maybe-said : (k : ℕ) → mayMiss k ≡ true → (m : MaybeKw) → Small m → Says k (maybeText m) (maybeValue m)
+unfolding Small
+maybe-said k may maybe.Missing w = missing-said k may
+maybe-said k may (maybe.At z) w = number-said k (z .0) (within-lit tt (w z refl))
+
+maybe-back : (m : MaybeKw) → Small m → maybeOf (maybeValue m) ≡ m
+unfolding Small
+maybe-back maybe.Missing w = refl
+maybe-back (maybe.At k) w = let u : Within 2000000 (k .0) = w k refl in rw (false-eqZ (k .0) missing (λ z. let q = rw z at u in omega arith))
+
+-- both numbers of an interval that may be missing
+record Smalls (v : Interval) : Type 0 where
+  pub eop : Small (v .eop)
+  pub uol : Small (v .uol)
+
+smalls : (v : Interval) → intervalInRange v ≡ true → Smalls v
+unfolding Small
+smalls v e = record { eop = go isPower (λ z. power-within) (v .eop) (eop-fits v e); uol = go isCapacity (λ z. capacity-within) (v .uol) (uol-fits v e) }
+  where
+    go : (inRange : ℤ → Bool) → ((z : ℤ) → inRange z ≡ true → Within 2000000 z) → (m : MaybeKw) → givenIn inRange m ≡ true → (k : Kw) → m ≡ maybe.At k → Within 2000000 (k .0)
+    go inRange within maybe.Missing e k q = impossible cc
+    go inRange within (maybe.At z) e k q = let same : z ≡ k = cc in rw (← same) (within (z .0) e)
 
 abbrev pub aheadValues : Hour → List ℤ
 aheadValues h =
@@ -54,7 +75,7 @@ aheadValues h =
 
 abbrev values : Interval → List ℤ
 values v =
-    v .s .0 ∷ v .en .0 ∷ v .ae .0 ∷ v .co .0 ∷ v .eop .0 ∷ v .pen .0 ∷ v .lim .0 ∷ limitValue (v .uol) ∷ v .r1 .0 ∷ v .r2 .0 ∷ v .r3 .0
+    v .s .0 ∷ v .en .0 ∷ v .ae .0 ∷ v .co .0 ∷ maybeValue (v .eop) ∷ v .pen .0 ∷ v .lim .0 ∷ maybeValue (v .uol) ∷ v .r1 .0 ∷ v .r2 .0 ∷ v .r3 .0
     ∷ v .p1 .0 ∷ v .p2 .0 ∷ v .p3 .0 ∷ v .reg .0 ∷ v .preg .0 ∷ v .breg .0 ∷ v .mv .0 ∷ v .pmv .0 ∷ v .bmv .0 ∷ []
 
 says : {N : ℕ} (k : ℕ) (z : ℤ) → T (leb N 9999999) → Within N z → Says k (number z) z
@@ -65,10 +86,10 @@ ahead-say h w f =
     says _ _ tt w and says _ _ tt (f .en) and says _ _ tt (f .reg) and says _ _ tt (f .r1) and says _ _ tt (f .r2) and says _ _ tt (f .r3)
     and says _ _ tt (f .breg) and says _ _ tt (f .b1) and says _ _ tt (f .b2) and says _ _ tt (f .b3) and nothing
 
-interval-say : (v : Interval) → IntervalFits v → uolInRange (v .uol) ≡ true → AllSay INTERVAL (amountTexts v) (values v)
+interval-say : (v : Interval) → IntervalFits v → Smalls v → AllSay INTERVAL (amountTexts v) (values v)
 interval-say v f e =
-    says _ _ tt (f .s) and says _ _ tt (f .en) and says _ _ tt (f .ae) and says _ _ tt (f .co) and says _ _ tt (f .eop) and says _ _ tt (f .pen)
-    and says _ _ tt (f .lim) and limit-said (v .uol) e and says _ _ tt (f .r1) and says _ _ tt (f .r2) and says _ _ tt (f .r3)
+    says _ _ tt (f .s) and says _ _ tt (f .en) and says _ _ tt (f .ae) and says _ _ tt (f .co) and maybe-said _ refl (v .eop) (e .eop) and says _ _ tt (f .pen)
+    and says _ _ tt (f .lim) and maybe-said _ refl (v .uol) (e .uol) and says _ _ tt (f .r1) and says _ _ tt (f .r2) and says _ _ tt (f .r3)
     and says _ _ tt (f .p1) and says _ _ tt (f .p2) and says _ _ tt (f .p3) and says _ _ tt (f .reg) and says _ _ tt (f .preg)
     and says _ _ tt (f .breg) and says _ _ tt (f .mv) and says _ _ tt (f .pmv) and says _ _ tt (f .bmv) and nothing
 
@@ -77,9 +98,9 @@ pub ahead-back : (h : Hour) (f : ℕ → ℤ) → ((j : ℕ) → j < 10 → f j 
 unfolding upTo
 ahead-back h f e = ap (λ (l : List ℤ). aheadOf (λ n. getD l n (pos 0))) (up-same f (λ j. getD (aheadValues h) j (pos 0)) 10 e)
 
-interval-back : (v : Interval) (f : ℕ → ℤ) → uolInRange (v .uol) ≡ true → ((j : ℕ) → j < 20 → f j ≡ getD (values v) j (pos 0)) → intervalOf f ≡ v
+interval-back : (v : Interval) (f : ℕ → ℤ) → Smalls v → ((j : ℕ) → j < 20 → f j ≡ getD (values v) j (pos 0)) → intervalOf f ≡ v
 unfolding upTo
-interval-back v f u e = ap (λ (l : List ℤ). intervalOf (λ n. getD l n (pos 0))) (up-same f (λ j. getD (values v) j (pos 0)) 20 e) ∙ rw (limit-back (v .uol) u)
+interval-back v f u e = ap (λ (l : List ℤ). intervalOf (λ n. getD l n (pos 0))) (up-same f (λ j. getD (values v) j (pos 0)) 20 e) ∙ rw (maybe-back (v .eop) (u .eop), maybe-back (v .uol) (u .uol))
 
 -- ---- interval lines
 module _ (h : Hour) (fits : (i : ℕ) → i < h .n → intervalInRange (interval h i) ≡ true) (s : List ℕ) (at : ℕ) where
@@ -99,7 +120,7 @@ module _ (h : Hour) (fits : (i : ℕ) → i < h .n → intervalInRange (interval
   unfolding intervalsText
   row-said n l o =
       let v = interval h n in
-      let u = uol-fits v (fits n l) in
+      let u = smalls v (fits n l) in
       let say = say-at INTERVAL (amountTexts v) (values v) (interval-say v (interval-fits v (fits n l)) u) in
       let r = line-said INTERVAL (amountTexts v) (λ j. getD (values v) j (pos 0)) s (place n) 20 say (omega arith) o in
       record {

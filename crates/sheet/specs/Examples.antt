@@ -5,7 +5,7 @@ use Prim.Native.Nat.{ℕ}
 use lib.ListN.{replicate}
 use lib.IntN.{pos}
 use Rattle.exact.specs.Whole.{upTo}
-use Rattle.tariff.specs.declared.Uol.the-variants.{Missing, At}
+use Rattle.tariff.specs.declared.MaybeKw.the-variants.{Missing, At}
 use Rattle.tariff.specs.declared.Interval.{Interval}
 use Rattle.tariff.specs.declared.Hour.{Hour}
 use Rattle.tariff.specs.Units.{kw, price, movePrice, seconds}
@@ -64,7 +64,7 @@ row en ae co eop lim =
       en = kw (pos en);
       ae = kw (pos ae);
       co = kw (pos co);
-      eop = kw (pos eop);
+      eop = At (kw (pos eop));
       pen = price (pos 5000);
       lim = kw (pos lim);
       uol = Missing;
@@ -174,7 +174,7 @@ last-line-open : blockOf (line1 ++ line2 ++ line3 ++ short ++ bytes "s=900") ≡
 unfolding reading
 last-line-open = refl
 
--- only `uol` may be missing
+-- only `eop` and `uol` may be missing
 minus-alone : blockOf (line1 ++ line2 ++ line3 ++ interval (bytes "80000 ae=80000 co=- eop=90000") (bytes "70000")) ≡ broken 4
 unfolding reading
 minus-alone = refl
@@ -187,6 +187,20 @@ thirty-lines = refl
 line-too-many : seriesAt intervalLine 4 1 (short ++ bytes "?") 0 29 ≡ brokenLine 34
 unfolding reading
 line-too-many = refl
+
+-- ---- `eop`: missing, given, and a minus that belongs to no number
+
+no-point : intervalAt (interval (bytes "80000 ae=80000 co=0 eop=-") (bytes "70000")) 0 0 .eop ≡ Missing
+unfolding reading
+no-point = refl
+
+point-of-nothing : intervalAt short 0 0 .eop ≡ At (kw (pos 0))
+unfolding reading
+point-of-nothing = refl
+
+minus-nothing : blockOf (line1 ++ line2 ++ line3 ++ interval (bytes "80000 ae=80000 co=0 eop=-0") (bytes "70000")) ≡ broken 4
+unfolding reading
+minus-nothing = refl
 
 -- ---- `uol`: missing, and a limit of 0
 

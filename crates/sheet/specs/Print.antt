@@ -4,8 +4,8 @@ use mathlib.Core.List.{List, [], _∷_, _++_}
 use Prim.Native.Nat.{ℕ, zero, suc}
 use lib.IntN.{pos}
 use Rattle.tariff.specs.declared.Curve.{Curve}
-use Rattle.tariff.specs.declared.Uol.{Uol}
-use Rattle.tariff.specs.declared.Uol.the-variants.{Missing, At}
+use Rattle.tariff.specs.declared.MaybeKw.{MaybeKw}
+use Rattle.tariff.specs.declared.MaybeKw.the-variants.{Missing, At}
 use Rattle.tariff.specs.declared.Interval.{Interval}
 use Rattle.tariff.specs.declared.Hour.{Hour}
 use Rattle.tariff.specs.Sheet.{endOf, priceOf}
@@ -17,9 +17,10 @@ use Rattle.lines.specs.Line.{filled}
 use Rattle.text.specs.Decimal.{number}
 use Rattle.lines.specs.Print.{fields, line}
 
-abbrev pub uolText : Uol → List ℕ
-uolText Missing = bytes "-"
-uolText (At k) = number (k .0)
+-- a number that may be missing
+abbrev pub maybeText : MaybeKw → List ℕ
+maybeText Missing = bytes "-"
+maybeText (At k) = number (k .0)
 
 abbrev pub aheadTexts : Hour → List (List ℕ)
 aheadTexts h =
@@ -36,8 +37,8 @@ curveText first c = fields first 2 (number (c .start .0) ∷ number (pos (c .n))
 
 abbrev pub amountTexts : Interval → List (List ℕ)
 amountTexts v =
-    number (v .s .0) ∷ number (v .en .0) ∷ number (v .ae .0) ∷ number (v .co .0) ∷ number (v .eop .0) ∷ number (v .pen .0) ∷ number (v .lim .0)
-    ∷ uolText (v .uol) ∷ number (v .r1 .0) ∷ number (v .r2 .0) ∷ number (v .r3 .0) ∷ number (v .p1 .0) ∷ number (v .p2 .0) ∷ number (v .p3 .0)
+    number (v .s .0) ∷ number (v .en .0) ∷ number (v .ae .0) ∷ number (v .co .0) ∷ maybeText (v .eop) ∷ number (v .pen .0) ∷ number (v .lim .0)
+    ∷ maybeText (v .uol) ∷ number (v .r1 .0) ∷ number (v .r2 .0) ∷ number (v .r3 .0) ∷ number (v .p1 .0) ∷ number (v .p2 .0) ∷ number (v .p3 .0)
     ∷ number (v .reg .0) ∷ number (v .preg .0) ∷ number (v .breg .0) ∷ number (v .mv .0) ∷ number (v .pmv .0) ∷ number (v .bmv .0) ∷ []
 
 unfoldable pub intervalsText : ℕ → Hour → List ℕ

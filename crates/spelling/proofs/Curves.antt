@@ -16,7 +16,7 @@ use Rattle.tariff.specs.Sheet.{liesIn, endOf, priceOf}
 use Rattle.text.specs.Decimal.{number}
 use Rattle.text.specs.declared.Next.{Next}
 use Rattle.text.specs.declared.Next.the-variants.{At, Wrong}
-use Rattle.keys.specs.Keys.{PAIR, UOL}
+use Rattle.keys.specs.Keys.{PAIR, EOP}
 use Rattle.lines.specs.Line.{andThen, afterFields, valueIn, lineFeed}
 use Rattle.lines.specs.Series.{seriesPlace, seriesFrom, seriesIn}
 use Rattle.lines.specs.Print.{fields}
@@ -29,10 +29,10 @@ use Rattle.spelling.proofs.Places.{none-spelt, both-spelt, fed-spelt}
 use Rattle.spelling.proofs.Fields.{value-number, Texts, fields-spelt}
 
 -- two numbers, as every part of a curve line has
-two-texts : (first : ℕ) (s : List ℕ) (at : ℕ) (a b : ℤ) → first + 2 ≤ UOL → a ≡ valueIn first s at 0 → b ≡ valueIn first s at 1
+two-texts : (first : ℕ) (s : List ℕ) (at : ℕ) (a b : ℤ) → first + 2 ≤ EOP → a ≡ valueIn first s at 0 → b ≡ valueIn first s at 1
     → Texts first s at 2 (number a ∷ number b ∷ [])
-two-texts first s at a b u p q zero l = ap number p ∙ sym (value-number (first + 0) (valueIn first s at 0) (λ e. omega arith))
-two-texts first s at a b u p q (suc zero) l = ap number q ∙ sym (value-number (first + 1) (valueIn first s at 1) (λ e. omega arith))
+two-texts first s at a b u p q zero l = ap number p ∙ sym (value-number (first + 0) (valueIn first s at 0) (λ e. omega arith) (λ e. omega arith))
+two-texts first s at a b u p q (suc zero) l = ap number q ∙ sym (value-number (first + 1) (valueIn first s at 1) (λ e. omega arith) (λ e. omega arith))
 two-texts first s at a b u p q (suc (suc j)) l = absurd (omega arith)
 
 -- ---- the pairs
@@ -60,7 +60,7 @@ count-over : (n : ℤ) → liesIn (pos 0) (pos 12) n ≡ true → pos (over n) �
 count-over (pos n) e = refl
 count-over (negsuc n) e = absurd (false≢true e)
 
-pub curve-spelt : (first : ℕ) (s : List ℕ) (at next : ℕ) → first + 2 ≤ UOL → curveLine first s at ≡ At next
+pub curve-spelt : (first : ℕ) (s : List ℕ) (at next : ℕ) → first + 2 ≤ EOP → curveLine first s at ≡ At next
     → Spelt s at (curveText first (curveSaid first s at)) next
 unfolding curveLine curveSaid curveText
 curve-spelt first s at next u = go (valueIn first s at 0) (valueIn first s at 1) refl refl (afterFields first 2 s at) refl

@@ -19,12 +19,12 @@ use Rattle.text.specs.declared.Number.{Number}
 use Rattle.text.specs.declared.Number.the-variants.{Got, Bad}
 use Rattle.text.specs.declared.Next.{Next}
 use Rattle.text.specs.declared.Next.the-variants.{At, Wrong}
-use Rattle.keys.specs.Keys.{keyOf, UOL, mayMiss}
+use Rattle.keys.specs.Keys.{keyOf, EOP, UOL, mayMiss}
 use Rattle.lines.specs.Line.{orMissing, valueAt, valueAfter, fieldAt, nextOf, valueOf, andThen, afterFields, valueFrom, valueIn, lineAt}
 use Rattle.lines.specs.Print.{fields, line}
 use Rattle.lines.proofs.Along.{never-at}
-use Rattle.records.specs.Records.{uolOf}
-use Rattle.sheet.specs.Print.{uolText}
+use Rattle.records.specs.Records.{maybeOf}
+use Rattle.sheet.specs.Print.{maybeText}
 use Rattle.spelling.specs.Spelt.{Spelt}
 use Rattle.spelling.specs.Value.{valueText, valueTexts}
 use Rattle.spelling.proofs.Places.{none-spelt, both-spelt, byte-spelt, key-spelt, fed-spelt}
@@ -34,14 +34,14 @@ never-got : {z : ℤ} {next : ℕ} → Bad ≡ Got z next → ⊥
 never-got e = impossible cc
 
 -- ---- a value
-limit-number : (z : ℤ) → Within 9999999 z → uolText (uolOf z) ≡ number z
-limit-number z w = rw (false-eqZ z missing (λ e. let q = rw e at w in omega arith))
+maybe-number : (z : ℤ) → Within 9999999 z → maybeText (maybeOf z) ≡ number z
+maybe-number z w = rw (false-eqZ z missing (λ e. let q = rw e at w in omega arith))
 
 module _ (s : List ℕ) (at : ℕ) (z : ℤ) (next : ℕ) where
-  limit-spelt : (n : Number) → numberAt s at ≡ n → orMissing n s at ≡ Got z next → Spelt s at (uolText (uolOf z)) next
-  limit-spelt (Got v k) e = λ f. let r = number-spelt s at z next (e ∙ f) in rw (limit-number z (r .small)) (r .text)
-  limit-spelt Bad e =
-      by-test (eqb (byteAt s at) 45) (λ t. (if t then Got missing (at + 1) else Bad) ≡ Got z next → Spelt s at (uolText (uolOf z)) next)
+  maybe-spelt : (n : Number) → numberAt s at ≡ n → orMissing n s at ≡ Got z next → Spelt s at (maybeText (maybeOf z)) next
+  maybe-spelt (Got v k) e = λ f. let r = number-spelt s at z next (e ∙ f) in rw (maybe-number z (r .small)) (r .text)
+  maybe-spelt Bad e =
+      by-test (eqb (byteAt s at) 45) (λ t. (if t then Got missing (at + 1) else Bad) ≡ Got z next → Spelt s at (maybeText (maybeOf z)) next)
       (λ t f.
       let p : missing ≡ z = cc in
       let q : at + 1 ≡ next = cc in
@@ -51,13 +51,13 @@ module _ (s : List ℕ) (at : ℕ) (z : ℤ) (next : ℕ) where
   value-spelt : (k : ℕ) → valueAt k s at ≡ Got z next → Spelt s at (valueText k z) next
   unfolding valueAt valueText
   value-spelt k =
-      by-test (mayMiss k) (λ t. (if t then orMissing (numberAt s at) s at else numberAt s at) ≡ Got z next → Spelt s at (if t then uolText (uolOf z) else number z) next)
-      (λ t. limit-spelt (numberAt s at) refl)
+      by-test (mayMiss k) (λ t. (if t then orMissing (numberAt s at) s at else numberAt s at) ≡ Got z next → Spelt s at (if t then maybeText (maybeOf z) else number z) next)
+      (λ t. maybe-spelt (numberAt s at) refl)
       (λ t e. number-spelt s at z next e .text)
 
-pub value-number : (k : ℕ) (z : ℤ) → (k ≡ UOL → ⊥) → valueText k z ≡ number z
+pub value-number : (k : ℕ) (z : ℤ) → (k ≡ EOP → ⊥) → (k ≡ UOL → ⊥) → valueText k z ≡ number z
 unfolding valueText
-value-number k z n = rw (ne-eqb k UOL n)
+value-number k z m n = rw (ne-eqb k EOP m, ne-eqb k UOL n)
 
 -- ---- a key and its value
 field-spelt : (k : ℕ) (s : List ℕ) (at : ℕ) (z : ℤ) (next : ℕ) → fieldAt k s at ≡ Got z next → Spelt s at (keyOf k ++ valueText k z) next

@@ -8,14 +8,14 @@ use Rattle.exact.specs.Whole.{upTo}
 use Rattle.text.specs.Text.{bytes}
 use Rattle.text.specs.Number.{missing}
 use Rattle.text.specs.Decimal.{natural, number}
-use Rattle.keys.specs.Keys.{AHEAD, UOL, mayMiss}
+use Rattle.keys.specs.Keys.{AHEAD, EOP, UOL, mayMiss}
 use Rattle.lines.specs.Line.{valueIn}
-use Rattle.records.specs.Records.{uolOf}
-use Rattle.sheet.specs.Print.{uolText}
+use Rattle.records.specs.Records.{maybeOf}
+use Rattle.sheet.specs.Print.{maybeText}
 
--- the value behind key k, as a limit where it may be missing
+-- the value behind key k, or a minus where it may be missing
 unfoldable pub valueText : ℕ → ℤ → List ℕ
-valueText k z = if mayMiss k then uolText (uolOf z) else number z
+valueText k z = if mayMiss k then maybeText (maybeOf z) else number z
 
 -- the values of n fields that are read at a place, from key `first` on
 unfoldable pub valueTexts : (first n : ℕ) → List ℕ → ℕ → List (List ℕ)
@@ -30,6 +30,6 @@ given : valueText UOL (pos 90000) ≡ bytes "90000"
 unfolding valueText natural
 given = refl
 
-not-given : valueText UOL missing ≡ bytes "-"
+not-given : (valueText UOL missing ≡ bytes "-") × (valueText EOP missing ≡ bytes "-")
 unfolding valueText
-not-given = refl
+not-given = (refl, refl)

@@ -8,7 +8,7 @@ use Rattle.exact.specs.Choice.{if_then_else_}
 use Rattle.tariff.specs.declared.Answer.{Answer}
 use Rattle.tariff.specs.declared.Answer.the-variants.{Paid, Refused}
 use Rattle.tariff.specs.declared.Check.{Check}
-use Rattle.tariff.specs.declared.Check.the-variants.{Form, Range, Order, Curve, Seconds, Derate, Reach, Room, Back}
+use Rattle.tariff.specs.declared.Check.the-variants.{Form, Range, Order, Curve, Seconds, Derate, Reach, Room, Back, Point}
 use Rattle.tariff.specs.declared.Found.{Found}
 use Rattle.tariff.specs.declared.Found.the-variants.{Nothing, Fault}
 use Rattle.tariff.specs.declared.Worth.{Worth}
@@ -18,7 +18,7 @@ use Rattle.tariff.specs.declared.ImportFault.the-variants as found
 use Rattle.tariff.specs.declared.ImportAnswer.{ImportAnswer}
 use Rattle.tariff.specs.declared.ImportAnswer.the-variants as answer
 use Rattle.tariff.specs.Units.{grains, cents}
-use Rattle.tariff.specs.Reply.{Reply, paid, refused, FORM, RANGE, ORDER, CURVE, SECONDS, DERATE, REACH, ROOM, Verdict, clear, fault, numberOf, placeOf, told, shown}
+use Rattle.tariff.specs.Reply.{Reply, paid, refused, FORM, RANGE, ORDER, CURVE, SECONDS, DERATE, REACH, ROOM, BACK, Verdict, clear, fault, numberOf, placeOf, told, shown}
 use Rattle.tariff.specs.Import.{Spot, outside, inHour, ImportReply, worthTold, importTold}
 use Rattle.tariff.specs.Import as import
 
@@ -40,7 +40,9 @@ checkOf number place =
     then Reach place
     else if eqb number ROOM
     then Room
-    else Back
+    else if eqb number BACK
+    then Back
+    else Point place
 
 check-back : (check : Check) → checkOf (numberOf check) (placeOf check) ≡ check
 check-back (Form line) = refl
@@ -52,6 +54,7 @@ check-back (Derate interval) = refl
 check-back (Reach interval) = refl
 check-back Room = refl
 check-back Back = refl
+check-back (Point interval) = refl
 
 abbrev pub answerOf : Reply → Answer
 answerOf (paid x y) = Paid (grains x) (cents y)
@@ -98,6 +101,7 @@ head-back (Derate interval) = refl
 head-back (Reach interval) = refl
 head-back Room = refl
 head-back Back = refl
+head-back (Point interval) = refl
 
 abbrev importAnswerOf : ImportReply → ImportAnswer
 importAnswerOf (import.paid name x y) = answer.Paid name (grains x) (cents y)

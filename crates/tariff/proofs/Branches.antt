@@ -6,7 +6,7 @@ use lib.IntN.{ℤ}
 use Rattle.tariff.specs.declared.Curve.{Curve}
 use Rattle.tariff.specs.Curve.{known, none, quote, integral}
 use Rattle.tariff.specs.Contributions.{curveIn, energyBy}
-use Rattle.tariff.specs.Demand.{Between, Extends}
+use Rattle.tariff.specs.Demand.{Between, SamePrices, Extends}
 use Rattle.tariff.proofs.Curves.{Unquoted, change-none, between-flip, unquoted-flip, integral-same, unquoted-none, none-unquoted}
 
 module _ (D limit : ℤ) (below above : ℤ → ℤ) (da rt : Curve) where
@@ -25,6 +25,12 @@ module _ (D limit : ℤ) (below above : ℤ → ℤ) (da rt : Curve) where
   unfolding energyBy
   none-energy true e = unquoted-flip da limit D (none-unquoted da limit D (change-none below (integral da limit D) e))
   none-energy false e = none-unquoted rt D limit (change-none above (integral rt D limit) e)
+
+-- curves with the same prices have the same on the one that is taken
+pub branch-same : {da rt da′ rt′ : Curve} → SamePrices da da′ → SamePrices rt rt′ → (lower : Bool) (k : ℤ)
+    → quote (curveIn lower da rt) k ≡ quote (curveIn lower da′ rt′) k
+branch-same d r true k = d .each k
+branch-same d r false k = r .each k
 
 -- curves with every price that others have keep the price of the one that is taken
 pub branch-extended : {da rt da′ rt′ : Curve} → Extends da da′ → Extends rt rt′ → (lower : Bool) (k p : ℤ)

@@ -23,7 +23,7 @@ use Rattle.tariff.specs.Reply.{Reply, paid, refused, FORM, RANGE, ORDER,
 use Rattle.tariff.specs.Eligible.{lags}
 use Rattle.tariff.specs.Hour.{interval, partsOf, outcome, outcomeAt, contribution, blockFault, reply, rowAfter, form, range, order, intervals}
 use Rattle.tariff.specs.Outcome.{gives}
-use Rattle.tariff.specs.Demand.{MustPrice, priceIn, FirstUnpriced, FirstExceeded, UnpricedBeforeDerate, ExceededBeforeReach}
+use Rattle.tariff.specs.Demand.{MustPrice, priceIn, FirstUnpriced, SomeUnpriced, FirstExceeded, SomeExceeded, SamePoints}
 use Rattle.tariff.specs.Demand.{FirstOutOfRange, FirstCurveBroken, SaysAnotherHour, Alike, Lawful, WholeHour, Passes, Extends}
 use Rattle.tariff.proofs.Turns.{of-three, of-four}
 use Rattle.tariff.proofs.Stops.{none-stopped}
@@ -34,25 +34,27 @@ use Rattle.tariff.proofs.Finds.{range-finds, order-finds, curves-find, 
 use Rattle.tariff.proofs.ByInterval.{first-unpriced, some-unpriced, first-exceeded, some-exceeded}
 use Rattle.tariff.proofs.Alike.{alike-outcome, alike-same, extended-price}
 use Rattle.tariff.proofs.Curves.{turned}
-use Rattle.tariff.proofs.Steps.{more-quoted, priced-when, when-priced, first-ending, in-step}
+use Rattle.tariff.proofs.Steps.{more-quoted, priced-when, when-priced, step-quoted}
 use Rattle.tariff.proofs.Answers.{answerOf, answer-back, findingOf, finding-back}
 
 -- ---- demand 3
 
--- Only the prices of the kilowatts between D and the limit matter: two hours that are alike in all but their curves, that no
--- check from 1 to 4 refuses, and whose prices agree on every kilowatt that must be priced, have one reply and one row.
+-- Only the prices of the kilowatts between D and the limit matter, and in an interval with `eop=-` the point: two hours that are alike in all but
+-- their curves, that no check from 1 to 4 refuses, that share the point of each eligible interval with `eop=-`, or both lack it, and whose prices
+-- agree on every kilowatt that must be priced, have one reply and one row.
 pub only-needed-prices-matter :
     (h g : Hour) (isExcluded : Bool) (expected : Expected) (row : List ℤ)
     → Alike h g
     → Lawful h expected
     → Lawful g expected
+    → SamePoints h g isExcluded
     → ((i : ℕ) (k : ℤ) → MustPrice h isExcluded i k → priceIn h i k ≡ priceIn g i k)
     → (reply h isExcluded expected (length row) ≡ reply g isExcluded expected (length row)) × (rowAfter h isExcluded expected row ≡ rowAfter g isExcluded expected row)
-only-needed-prices-matter h g isExcluded expected row a f f′ prices =
-    alike-same h g a isExcluded expected row f f′ (λ i u. alike-outcome h g a isExcluded i u (prices i))
+only-needed-prices-matter h g isExcluded expected row a f f′ points prices =
+    alike-same h g a isExcluded expected row f f′ (λ i u. alike-outcome h g a isExcluded i u points (prices i))
 
 -- REACH is given exactly when no check from 1 to 5 refuses and a kilowatt that must be priced has no price: at the first interval that
--- has one, and where no DERATE stands at or before it.
+-- has one, and where no POINT and no DERATE comes first.
 pub reach-exactly-when-unpriced :
     (h : Hour) (isExcluded : Bool) (expected : Expected) (room i : ℕ)
     → (reply h isExcluded expected room ≡ refused REACH (i + 1)) ↔ (WholeHour h expected × FirstUnpriced h isExcluded i)
@@ -60,26 +62,27 @@ reach-exactly-when-unpriced h isExcluded expected room i =
     Iff·trans (stop-given (generator h isExcluded expected) room REACH refl i) (Iff·and (whole-when (partsOf h) expected) (first-unpriced h isExcluded i))
 
 -- So an hour is refused for reach exactly when no check from 1 to 5 refuses it, a kilowatt that some interval must price has no price,
--- and no derate refusal falls in that interval or before it.
+-- and no point or derate refusal comes before that interval, which itself must price only where neither refuses it.
 pub refused-for-reach-exactly-when-some-kilowatt-is-unpriced :
     (h : Hour) (isExcluded : Bool) (expected : Expected) (room : ℕ)
-    → ((place : ℕ) × (reply h isExcluded expected room ≡ refused REACH place)) ↔ (WholeHour h expected × UnpricedBeforeDerate h isExcluded)
+    → ((place : ℕ) × (reply h isExcluded expected room ≡ refused REACH place)) ↔ (WholeHour h expected × SomeUnpriced h isExcluded)
 refused-for-reach-exactly-when-some-kilowatt-is-unpriced h isExcluded expected room =
     Iff·trans (some-given (generator h isExcluded expected) room REACH refl) (Iff·and (whole-when (partsOf h) expected) (some-unpriced h isExcluded))
 
--- Adding curve to a paid hour never moves a cent, where the longer curves break no rule of checks 1 to 4: with every price that its
--- curves had, and perhaps more, it pays the same and leaves the same row.
+-- Adding curve to a paid hour never moves a cent, where the longer curves break no rule of checks 1 to 4 and leave each point that the curve is
+-- asked for: with every price that its curves had, and perhaps more, it pays the same and leaves the same row.
 pub adding-curve-changes-nothing :
     (h g : Hour) (isExcluded : Bool) (expected : Expected) (row : List ℤ) (sum cents : ℤ)
     → Alike h g
     → Lawful g expected
     → Extends (h .da) (g .da)
     → Extends (h .rt) (g .rt)
+    → SamePoints h g isExcluded
     → reply h isExcluded expected (length row) ≡ paid sum cents
     → (reply g isExcluded expected (length row) ≡ paid sum cents) × (rowAfter g isExcluded expected row ≡ rowAfter h isExcluded expected row)
-adding-curve-changes-nothing h g isExcluded expected row sum cents a f da rt e =
+adding-curve-changes-nothing h g isExcluded expected row sum cents a f da rt points e =
     let passes = paid-when (blockFault h expected) (outcomeAt h isExcluded) (h .n) (length row) sum cents .0 e in
-    let same = only-needed-prices-matter h g isExcluded expected row a (whole-when (partsOf h) expected .0 (passes .0) .lawful) f (extended-price h g a isExcluded da rt (passes .1)) in
+    let same = only-needed-prices-matter h g isExcluded expected row a (whole-when (partsOf h) expected .0 (passes .0) .lawful) f points (extended-price h g a isExcluded da rt (passes .1)) in
     (sym (same .0) ∙ e, sym (same .1))
 
 -- A curve with further steps at its end has every price that it had.
@@ -95,8 +98,8 @@ more-steps-extend c d s u same =
 
 -- ---- what an hour pays
 
--- An interval with `ae` at or below `lim` contributes 0 for all products and skips checks 6 and 7: its loss offsets nothing, and no
--- DERATE or REACH stands at it.
+-- An interval with `ae` at or below `lim` contributes 0 for all products and skips checks 10, 6 and 7: its loss offsets nothing, and no
+-- POINT, DERATE or REACH stands at it.
 pub lagging-asks-nothing : (h : Hour) (isExcluded : Bool) (i : ℕ) → lags (interval h i) ≡ true → outcomeAt h isExcluded i ≡ gives (pos 0)
 unfolding outcomeAt outcome
 lagging-asks-nothing h true i e = refl
@@ -176,7 +179,7 @@ seconds-exactly-when-not-3600 h isExcluded expected room place =
     Iff·trans (turn-given (generator h isExcluded expected) room SECONDS 4 place refl refl refl (seconds-find (partsOf h) place)) (Iff·trans (past-lawful (partsOf h) expected) of-three)
 
 -- DERATE is given exactly when no check from 1 to 5 refuses and the reduction of an eligible interval exceeds the room for it: at the
--- first such interval, and where no REACH stands before it. REACH has the like, above.
+-- first such interval, and where no POINT and no REACH comes first. REACH has the like, above, and POINT in PointDemands.
 pub derate-exactly-when-exceeded :
     (h : Hour) (isExcluded : Bool) (expected : Expected) (room i : ℕ)
     → (reply h isExcluded expected room ≡ refused DERATE (i + 1)) ↔ (WholeHour h expected × FirstExceeded h isExcluded i)
@@ -184,10 +187,10 @@ derate-exactly-when-exceeded h isExcluded expected room i =
     Iff·trans (stop-given (generator h isExcluded expected) room DERATE refl i) (Iff·and (whole-when (partsOf h) expected) (first-exceeded h isExcluded i))
 
 -- So an hour is refused for derate exactly when no check from 1 to 5 refuses it, the reduction of some eligible interval exceeds the room
--- for it, and no reach refusal falls before that interval.
+-- for it, and no point or reach refusal comes before that interval, which itself has its point.
 pub refused-for-derate-exactly-when-some-reduction-exceeds :
     (h : Hour) (isExcluded : Bool) (expected : Expected) (room : ℕ)
-    → ((place : ℕ) × (reply h isExcluded expected room ≡ refused DERATE place)) ↔ (WholeHour h expected × ExceededBeforeReach h isExcluded)
+    → ((place : ℕ) × (reply h isExcluded expected room ≡ refused DERATE place)) ↔ (WholeHour h expected × SomeExceeded h isExcluded)
 refused-for-derate-exactly-when-some-reduction-exceeds h isExcluded expected room =
     Iff·trans (some-given (generator h isExcluded expected) room DERATE refl) (Iff·and (whole-when (partsOf h) expected) (some-exceeded h isExcluded))
 
@@ -245,10 +248,7 @@ pub price-of-step :
     → beginOf c j ≤ℤ k
     → k <ℤ endOf c j
     → quote c k ≡ known (priceOf c j)
-unfolding quote
-price-of-step c keeps j k u low high =
-    let step = in-step c keeps j k u low high in
-    rw (step .0) (first-ending (endOf c) (priceOf c) j 0 (c .n) k (omega arith) (omega arith) (step .1) (step .2))
+price-of-step = step-quoted
 
 -- An integral taken downward is the negative of the upward one.
 pub downward-is-the-negative : (c : Curve) (a b : ℤ) → integral c a b ≡ change negℤ (integral c b a)

@@ -1,7 +1,7 @@
 -- What each check over a block of any kind of hour finds, in the words of the demands. RANGE and CURVE go line by line: such a fault is given exactly when a
 -- line fails the test, and at the first that does.
 use mathlib.Core.Path.{_≡_, refl, sym, _∙_, ap}
-use mathlib.Core.Bool.{Bool, false, false≢true}
+use mathlib.Core.Bool.{Bool, true, false, false≢true}
 use mathlib.Core.Logic.{_↔_}
 use Prim.Native.Nat.{ℕ, suc, _+_}
 use native.Mathlib.Numerals.{add-four}
@@ -12,10 +12,11 @@ use Rattle.exact.proofs.Apart.{impossible}
 use Rattle.exact.proofs.Parts.{true-eqZ, false-eqZ}
 use Rattle.tariff.specs.declared.Expected.{Expected}
 use Rattle.tariff.specs.declared.Expected.the-variants.{Any, Says}
-use Rattle.tariff.specs.Reply.{RANGE, CURVE, Verdict, fault, unless, _then_, firstOf, ORDER, SECONDS}
+use Rattle.tariff.specs.Reply.{RANGE, CURVE, Verdict, clear, fault, unless, _then_, firstOf, ORDER, SECONDS}
+use Rattle.tariff.specs.Sheet.{curveKeeps}
 use Rattle.tariff.specs.Checks.{rangeIn, orderIn, curvesIn, secondsIn, Parts, rangeOf, orderOf, curvesOf, secondsOf}
 use Rattle.tariff.specs.Demand.{lineInRange, lineKeeps, FirstLine, FirstOutOfRange, FirstCurveBroken, SaysAnotherHour}
-use Rattle.tariff.proofs.Checks.{then-assoc, unless-clear, unless-when, first-same, first-behind, first-fault, fault-first, never-clear}
+use Rattle.tariff.proofs.Checks.{then-assoc, then-clear, unless-clear, unless-when, first-same, first-behind, first-fault, fault-first, never-clear}
 
 -- ---- one test of each line
 
@@ -66,6 +67,13 @@ module _ (p : Parts) where
 
   pub curves-find : (line : ℕ) → (curvesOf p ≡ fault CURVE line) ↔ FirstCurveBroken p line
   curves-find line = rw curve-lines (line-when (lineKeeps p) CURVE 3 line)
+
+  -- where it finds nothing, neither curve breaks a rule
+  pub curves-keep : curvesOf p ≡ clear → (curveKeeps (p .da) ≡ true) × (curveKeeps (p .rt) ≡ true)
+  unfolding curvesIn
+  curves-keep e =
+      let w = then-clear (unless (curveKeeps (p .da)) CURVE 2) (unless (curveKeeps (p .rt)) CURVE 3) e in
+      (unless-clear (curveKeeps (p .da)) CURVE 2 (w .0), unless-clear (curveKeeps (p .rt)) CURVE 3 (w .1))
 
 -- ---- ORDER and SECONDS
 

@@ -17,7 +17,7 @@ use Rattle.tariff.specs.declared.Expected.{Expected}
 use Rattle.tariff.specs.Units.{centsOf}
 use Rattle.tariff.specs.Curve.{known, integral}
 use Rattle.tariff.specs.Contributions.{energyBy}
-use Rattle.tariff.specs.Reply.{paid, refused, FORM, RANGE, ORDER, CURVE, SECONDS, DERATE, REACH, ROOM, clear, fault}
+use Rattle.tariff.specs.Reply.{paid, refused, FORM, RANGE, ORDER, CURVE, SECONDS, DERATE, REACH, ROOM, POINT, clear, fault}
 use Rattle.tariff.specs.Checks.{formOf, rangeOf, orderOf, secondsOf}
 use Rattle.tariff.specs.Controllable.{iclInterval, iclParts, iclFault, iclLowerGrains, iclUpperGrains, iclEnergy, iclOutcomeAt, iclIntervals, iclContribution, iclReply, iclRowAfter}
 use Rattle.tariff.specs.Demand.{FirstOutOfRange, FirstCurveBroken, SaysAnotherHour, Extends}
@@ -164,7 +164,7 @@ icl-seconds-exactly-when-not-3600 h isExcluded expected room place =
     Iff·trans (turn-given (controllable h isExcluded expected) room SECONDS 4 place refl refl refl (seconds-find (iclParts h) place))
     (Iff·trans (past-lawful (iclParts h) expected) of-three)
 
--- DERATE is never given, at no place: no 25.5 applies.
+-- DERATE is never given, at no place: no 25.5 applies. Nor is POINT: there is no operating point.
 pub icl-never-derate :
     (h : IclHour) (isExcluded : Bool) (expected : Expected) (room place : ℕ)
     → iclReply h isExcluded expected room ≡ refused DERATE place
@@ -172,6 +172,15 @@ pub icl-never-derate :
 icl-never-derate h isExcluded expected room place e =
     let w = some-given (controllable h isExcluded expected) room DERATE refl .0 (place, e) .1 in
     let same = icl-stops-are h isExcluded (w .at) DERATE (w .here) in
+    absurd (omega arith)
+
+pub icl-never-point :
+    (h : IclHour) (isExcluded : Bool) (expected : Expected) (room place : ℕ)
+    → iclReply h isExcluded expected room ≡ refused POINT place
+    → ⊥
+icl-never-point h isExcluded expected room place e =
+    let w = some-given (controllable h isExcluded expected) room POINT refl .0 (place, e) .1 in
+    let same = icl-stops-are h isExcluded (w .at) POINT (w .here) in
     absurd (omega arith)
 
 pub icl-room-exactly-when-short :

@@ -18,6 +18,8 @@ pub mod Rounds
 pub mod Reduced
 pub mod Limits
 pub mod Others
+pub mod Steps
+pub mod Points
 pub mod Branches
 pub mod Needed
 pub mod IclNeeded
@@ -27,11 +29,11 @@ pub mod ByInterval
 pub mod Answers
 pub mod HourAnswers
 pub mod Totals
-pub mod Steps
 pub mod ImportRanges
 pub mod ImportGrains
 pub mod Imports
 pub mod Demands
 pub mod ShareDemands
+pub mod PointDemands
 pub mod IclDemands
 pub mod Unique

@@ -1,5 +1,5 @@
--- The checks of an hour in their order: FORM, RANGE, ORDER, CURVE and SECONDS over the block, each in its turn, and then DERATE and REACH,
--- which stop an interval. The block's are one list of turns for every kind of hour.
+-- The checks of an hour in their order: FORM, RANGE, ORDER, CURVE and SECONDS over the block, each in its turn, and then POINT, DERATE
+-- and REACH, which stop an interval. The block's are one list of turns for every kind of hour.
 use mathlib.Core.Path.{_≡_, sym, ap, _∙_}
 use mathlib.Core.Bool.{Bool, true}
 use mathlib.Core.List.{List, [], _∷_}
@@ -9,7 +9,7 @@ use lib.ListN.{take}
 use Rattle.tariff.specs.declared.Hour.{Hour}
 use Rattle.tariff.specs.declared.IclHour.{IclHour}
 use Rattle.tariff.specs.declared.Expected.{Expected}
-use Rattle.tariff.specs.Reply.{FORM, RANGE, ORDER, CURVE, SECONDS, DERATE, REACH, Verdict, clear, _then_}
+use Rattle.tariff.specs.Reply.{FORM, RANGE, ORDER, CURVE, SECONDS, DERATE, REACH, POINT, Verdict, clear, _then_}
 use Rattle.tariff.specs.Checks.{Parts, formOf, rangeOf, orderOf, curvesOf, secondsOf, faultOf}
 use Rattle.tariff.specs.Outcome.{Outcome, stops}
 use Rattle.tariff.specs.Hour.{partsOf, outcomeAt}
@@ -55,10 +55,10 @@ pub lawful-same : (p q : Parts) (expected : Expected) → LawfulBlock p expected
     → faultOf p expected ≡ faultOf q expected
 lawful-same p q expected f g e = rw (f .form, f .range, f .order, f .curves, g .form, g .range, g .order, g .curves) e
 
--- ---- with what stops an interval: of a generator either, of an internal controllable line REACH alone
+-- ---- with what stops an interval: of a generator each of the three, of an internal controllable line REACH alone
 
 abbrev pub causes : List ℕ
-causes = DERATE ∷ REACH ∷ []
+causes = POINT ∷ DERATE ∷ REACH ∷ []
 
 abbrev pub anyHour : (p : Parts) → Expected → (outcome : ℕ → Outcome) → ((i number : ℕ) → outcome i ≡ stops number → isIn number causes ≡ true) → AnyHour
 anyHour p expected outcome caused =
@@ -74,7 +74,7 @@ anyHour p expected outcome caused =
 
 abbrev pub generator : Hour → Bool → Expected → AnyHour
 generator h isExcluded expected =
-    anyHour (partsOf h) expected (outcomeAt h isExcluded) (λ i number e. ⊎-elim (λ w. rw w) (λ w. rw w) (stops-are h isExcluded i number e))
+    anyHour (partsOf h) expected (outcomeAt h isExcluded) (λ i number e. ⊎-elim (λ w. rw w) (λ w. ⊎-elim (λ q. rw q) (λ q. rw q) w) (stops-are h isExcluded i number e))
 
 abbrev pub controllable : IclHour → Bool → Expected → AnyHour
 controllable h isExcluded expected =

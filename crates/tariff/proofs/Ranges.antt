@@ -15,7 +15,7 @@ use Rattle.tariff.specs.declared.DayAhead.{DayAhead}
 use Rattle.tariff.specs.declared.Interval.{Interval}
 use Rattle.tariff.specs.declared.IclInterval.{IclInterval}
 use Rattle.tariff.specs.declared.Expected.{Expected}
-use Rattle.tariff.specs.Sheet.{liesIn, isSeconds, isHour, isPower, isCapacity, isBid, isPrice, endOf, priceOf, allTo, aheadInRange, stepInRange, curveInRange, uolInRange, intervalInRange}
+use Rattle.tariff.specs.Sheet.{liesIn, isSeconds, isHour, isPower, isCapacity, isBid, isPrice, endOf, priceOf, allTo, aheadInRange, stepInRange, curveInRange, uolInRange, eopInRange, intervalInRange}
 use Rattle.tariff.specs.Reply.{FORM, RANGE, Verdict, clear, unless, _then_, firstOf}
 use Rattle.tariff.specs.Controllable.{iclAheadInRange, iclIntervalInRange}
 use Rattle.tariff.specs.Checks.{formIn, rangeIn, Parts, hoursAround, formOf, rangeOf}
@@ -73,7 +73,6 @@ pub record IntervalFits (v : Interval) : Type 0 where
   pub en : Within 2000000 (v .en .0)
   pub ae : Within 2000000 (v .ae .0)
   pub co : Within 2000000 (v .co .0)
-  pub eop : Within 2000000 (v .eop .0)
   pub pen : Within 1000000 (v .pen .0)
   pub lim : Within 2000000 (v .lim .0)
   pub r1 : Within 2000000 (v .r1 .0)
@@ -98,6 +97,10 @@ interval-fits v e =
 pub uol-fits : (v : Interval) → intervalInRange v ≡ true → uolInRange (v .uol) ≡ true
 unfolding intervalInRange
 uol-fits v e = let h = simp and-eq-true-iff at e in search h
+
+pub eop-fits : (v : Interval) → intervalInRange v ≡ true → eopInRange (v .eop) ≡ true
+unfolding intervalInRange
+eop-fits v e = let h = simp and-eq-true-iff at e in search h
 
 -- ---- an internal controllable line's
 

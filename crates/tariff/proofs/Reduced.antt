@@ -7,8 +7,8 @@ use borrow.Author.Tests.{ltb-false}
 use lib.IntN.{ℤ, pos, _-ℤ_}
 use Rattle.exact.specs.Whole.{over, Within}
 use Rattle.exact.proofs.Parts.{apart, less-parts}
-use Rattle.tariff.specs.declared.Uol.{Uol}
-use Rattle.tariff.specs.declared.Uol.the-variants.{Missing, At}
+use Rattle.tariff.specs.declared.MaybeKw.{MaybeKw}
+use Rattle.tariff.specs.declared.MaybeKw.the-variants.{Missing, At}
 use Rattle.tariff.specs.declared.DayAhead.{DayAhead}
 use Rattle.tariff.specs.declared.Interval.{Interval}
 use Rattle.tariff.specs.Sheet.{aheadInRange, intervalInRange}
@@ -31,7 +31,7 @@ cut-within d r n u v h =
     omega (arith, less-parts d r, less-parts d (pos n), apart d, apart r, apart (d -ℤ r), apart (d -ℤ pos n))
 
 module _ (a : DayAhead) (v : Interval) (ea : aheadInRange a ≡ true) (ev : intervalInRange v ≡ true) where
-  by-limit : (limit : Uol) → exceedsUnder a v limit ≡ false → (j : ℕ) → j < 5 → Within 2000000 (reducedBy a v limit j)
+  by-limit : (limit : MaybeKw) → exceedsUnder a v limit ≡ false → (j : ℕ) → j < 5 → Within 2000000 (reducedBy a v limit j)
   by-limit Missing e j u = ahead-within a ea j u
   by-limit (At limit) e j u =
       cut-within (dayAhead a j) (realTime v j) _ (ahead-within a ea j u) (live-within v ev j u)

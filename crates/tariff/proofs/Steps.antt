@@ -58,7 +58,7 @@ module _ (ends prices : ℕ → ℤ) where
       go false q ih = ih (record { at = w .at; from = past (decLt j (w .at)) q; below = let u = w .below in omega arith; above = w .above })
 
   -- the first step that ends above k has its price
-  pub first-ending : (i j left : ℕ) (k : ℤ) → j ≤ i → i < j + left → ((m : ℕ) → m < i → ltZ k (ends m) ≡ false) → ltZ k (ends i) ≡ true
+  first-ending : (i j left : ℕ) (k : ℤ) → j ≤ i → i < j + left → ((m : ℕ) → m < i → ltZ k (ends m) ≡ false) → ltZ k (ends i) ≡ true
       → quoteFrom ends prices j left k ≡ known (prices i)
   unfolding quoteFrom
   first-ending i j zero k u v before here = absurd (omega arith)
@@ -103,7 +103,7 @@ more-quoted ends prices ends′ prices′ n m start k u same p = go (ltZ k start
 -- ---- ends that rise
 
 module _ (c : Curve) (keeps : curveKeeps c ≡ true) where
-  rising : (j : ℕ) → j < c .n → ltZ (beginOf c j) (endOf c j) ≡ true
+  pub rising : (j : ℕ) → j < c .n → ltZ (beginOf c j) (endOf c j) ≡ true
   unfolding curveKeeps
   rising j u =
       and-left (rises c j) (isFair c j)
@@ -115,7 +115,7 @@ module _ (c : Curve) (keeps : curveKeeps c ≡ true) where
       keeps) u)
 
   -- no step begins above a later one, and a step ends where the next begins
-  begins-rise : (i j : ℕ) → i ≤ j → j ≤ c .n → beginOf c i ≤ℤ beginOf c j
+  pub begins-rise : (i j : ℕ) → i ≤ j → j ≤ c .n → beginOf c i ≤ℤ beginOf c j
   begins-rise i zero u v = let same : i ≡ 0 = omega arith in rw same (≤ℤ-refl (beginOf c 0))
   begins-rise i (suc j) u v = go (begins-rise i j) (decLe i j)
     where
@@ -145,10 +145,30 @@ module _ (c : Curve) (keeps : curveKeeps c ≡ true) where
       (x .0, rw start (x .1))
 
   -- a kilowatt of step j: neither the curve's start nor the end of a step before j is above it, and the end of j is
-  pub in-step : (j : ℕ) (k : ℤ) → j < c .n → beginOf c j ≤ℤ k → k <ℤ endOf c j
+  in-step : (j : ℕ) (k : ℤ) → j < c .n → beginOf c j ≤ℤ k → k <ℤ endOf c j
       → (ltZ k (c .start .0) ≡ false) × ((m : ℕ) → m < j → ltZ k (endOf c m) ≡ false) × (ltZ k (endOf c j) ≡ true)
   in-step j k u low high = (
     omega (arithℤ, begins-rise 0 j (omega arith) (omega arith)),
     λ m v. omega (arithℤ, begins-rise (suc m) j (omega arith) (omega arith)),
     omega arithℤ,
   )
+
+  pub step-quoted : (j : ℕ) (k : ℤ) → j < c .n → beginOf c j ≤ℤ k → k <ℤ endOf c j → quote c k ≡ known (priceOf c j)
+  unfolding quote
+  step-quoted j k u low high =
+      let step = in-step j k u low high in
+      rw (step .0) (first-ending (endOf c) (priceOf c) j 0 (c .n) k (omega arith) (omega arith) (step .1) (step .2))
+
+  -- below the begin of step m, from the curve's start on, kilowatt k is one of a step before m
+  pub record Stepped (m : ℕ) (k : ℤ) : Type 0 where
+    pub at : ℕ
+    pub before : at < m
+    pub priced : quote c k ≡ known (priceOf c at)
+
+  pub stepped : (m : ℕ) (k : ℤ) → m ≤ c .n → c .start .0 ≤ℤ k → k <ℤ beginOf c m → Stepped m k
+  stepped zero k u low high = absurd (omega arithℤ)
+  stepped (suc m) k u low high = go (stepped m k) (ltZ k (beginOf c m)) refl
+    where
+      go : (m ≤ c .n → c .start .0 ≤ℤ k → k <ℤ beginOf c m → Stepped m k) → (t : Bool) → ltZ k (beginOf c m) ≡ t → Stepped (suc m) k
+      go ih true e = let w = ih (omega arith) low (omega arithℤ) in record { at = w .at; before = let b = w .before in omega arith; priced = w .priced }
+      go ih false e = record { at = m; before = omega arith; priced = step-quoted m k u (omega arithℤ) high }

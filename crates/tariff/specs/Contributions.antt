@@ -11,7 +11,7 @@ use Rattle.tariff.specs.Units.{grainsOf, movedGrains}
 use Rattle.tariff.specs.Curve.{Amount, change, integral}
 use Rattle.tariff.specs.Derate.{reduced}
 
--- ---- energy: D is day-ahead energy after the derate, R real-time energy, E `eop`, and A the capped `ae`
+-- ---- energy: D is day-ahead energy after the derate, R real-time energy, E the operating point (Point.antt), and A the capped `ae`
 
 -- A is capped at R + `co` when R > 0
 abbrev pub capped : (R ae co : ℤ) → ℤ
@@ -78,10 +78,6 @@ movement mv pmv bmv = movedGrains mv (maxℤ (pmv -ℤ bmv) (pos 0))
 
 -- ---- an interval: the schedules are the reduced ones, the bids those of line 1
 
--- E
-abbrev pub pointOf : Interval → ℤ
-pointOf v = v .eop .0
-
 -- A
 abbrev pub cappedOf : Interval → ℤ
 cappedOf v = capped (v .en .0) (v .ae .0) (v .co .0)
@@ -90,11 +86,11 @@ cappedOf v = capped (v .en .0) (v .ae .0) (v .co .0)
 abbrev pub lowerIn : DayAhead → Interval → Bool
 lowerIn a v = isLower (reduced a v 0) (v .en .0)
 
-abbrev pub limitIn : DayAhead → Interval → ℤ
-limitIn a v = limitOf (reduced a v 0) (v .en .0) (pointOf v) (cappedOf v)
+abbrev pub limitIn : DayAhead → Interval → (E : ℤ) → ℤ
+limitIn a v E = limitOf (reduced a v 0) (v .en .0) E (cappedOf v)
 
-abbrev pub energyOf : Curve → Curve → DayAhead → Interval → Amount
-energyOf da rt a v = energy (lowerIn a v) da rt (reduced a v 0) (limitIn a v) (v .pen .0) (v .s .0)
+abbrev pub energyOf : Curve → Curve → DayAhead → Interval → (E : ℤ) → Amount
+energyOf da rt a v E = energy (lowerIn a v) da rt (reduced a v 0) (limitIn a v E) (v .pen .0) (v .s .0)
 
 unfoldable pub otherThanEnergy : DayAhead → Interval → ℤ
 otherThanEnergy a v =

@@ -7,8 +7,8 @@ use lib.ListN.{getD}
 use lib.IntN.{ℤ, pos, _-ℤ_}
 use Rattle.exact.specs.Choice.{if_then_else_}
 use Rattle.exact.specs.Whole.{over, sumTo}
-use Rattle.tariff.specs.declared.Uol.{Uol}
-use Rattle.tariff.specs.declared.Uol.the-variants.{Missing, At}
+use Rattle.tariff.specs.declared.MaybeKw.{MaybeKw}
+use Rattle.tariff.specs.declared.MaybeKw.the-variants.{Missing, At}
 use Rattle.tariff.specs.declared.DayAhead.{DayAhead}
 use Rattle.tariff.specs.declared.Interval.{Interval}
 
@@ -62,12 +62,12 @@ share pot red j = floorOf pot red j + one (ltb (rank (remainder pot red) j) (lef
 -- ---- the interval's derate
 
 -- the reduction exceeds the room for it
-abbrev pub exceedsUnder : DayAhead → Interval → Uol → Bool
+abbrev pub exceedsUnder : DayAhead → Interval → MaybeKw → Bool
 exceedsUnder a v Missing = false
 exceedsUnder a v (At limit) = ltb (ofFive (potRed a v)) (redTot a (limit .0))
 
 -- the schedules that every later rule reads
-abbrev pub reducedBy : DayAhead → Interval → Uol → ℕ → ℤ
+abbrev pub reducedBy : DayAhead → Interval → MaybeKw → ℕ → ℤ
 reducedBy a v Missing j = dayAhead a j
 reducedBy a v (At limit) j = dayAhead a j -ℤ pos (share (potRed a v) (redTot a (limit .0)) j)
 

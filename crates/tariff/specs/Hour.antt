@@ -7,19 +7,20 @@ use lib.IntN.{ℤ, pos, _+ℤ_}
 use Rattle.exact.specs.Choice.{if_then_else_}
 use Rattle.tariff.specs.declared.Hour.{Hour}
 use Rattle.tariff.specs.declared.Interval.{Interval}
-use Rattle.tariff.specs.declared.Uol.the-variants.{Missing}
+use Rattle.tariff.specs.declared.MaybeKw.the-variants.{Missing}
 use Rattle.tariff.specs.declared.Expected.{Expected}
 use Rattle.tariff.specs.Units.{kw, price, movePrice, seconds}
 use Rattle.tariff.specs.Sheet.{aheadInRange, intervalInRange}
 use Rattle.tariff.specs.Curve.{Amount, known, none}
-use Rattle.tariff.specs.Reply.{Reply, DERATE, REACH, Verdict}
+use Rattle.tariff.specs.Reply.{Reply, DERATE, REACH, POINT, Verdict}
 use Rattle.tariff.specs.Checks.{Parts, formOf, rangeOf, orderOf, curvesOf, secondsOf, faultOf}
 use Rattle.tariff.specs.Outcome.{Outcome, gives, stops, firstStop, amount, sumBy, replyBy, rowBy}
 use Rattle.tariff.specs.Eligible.{lags}
 use Rattle.tariff.specs.Derate.{exceedsRoom}
+use Rattle.tariff.specs.Point.{pointOf}
 use Rattle.tariff.specs.Contributions.{energyOf, otherThanEnergy}
 
--- what stands past a record's intervals: zeros, which RANGE would refuse for their seconds
+-- what stands past a record's intervals: zeros, or nothing given; RANGE would refuse its seconds
 abbrev pub blank : Interval
 blank =
     record {
@@ -27,7 +28,7 @@ blank =
       en = kw (pos 0);
       ae = kw (pos 0);
       co = kw (pos 0);
-      eop = kw (pos 0);
+      eop = Missing;
       pen = price (pos 0);
       lim = kw (pos 0);
       uol = Missing;
@@ -79,7 +80,12 @@ curves h = curvesOf (partsOf h)
 abbrev pub secondsSum : Hour → Verdict
 secondsSum h = secondsOf (partsOf h)
 
--- ---- checks 6 and 7, interval by interval, 6 before 7 in each
+-- ---- checks 10, 6 and 7, interval by interval, in this order in each
+
+-- E, or POINT where an interval has none
+abbrev pub orPoint : Amount → (ℤ → Outcome) → Outcome
+orPoint (known E) outcome = outcome E
+orPoint none outcome = stops POINT
 
 abbrev pub withOthers : ℤ → Amount → Outcome
 withOthers others (known energy) = gives (energy +ℤ others)
@@ -91,9 +97,11 @@ outcome h v =
     if lags v
     then gives (pos 0)
     else
-    (if exceedsRoom (h .ahead) v
+    orPoint (pointOf (h .rt) v)
+    (λ E.
+    if exceedsRoom (h .ahead) v
     then stops DERATE
-    else withOthers (otherThanEnergy (h .ahead) v) (energyOf (h .da) (h .rt) (h .ahead) v))
+    else withOthers (otherThanEnergy (h .ahead) v) (energyOf (h .da) (h .rt) (h .ahead) v E))
 
 -- an excluded hour's intervals contribute nothing and ask nothing
 unfoldable pub outcomeAt : Hour → Bool → ℕ → Outcome

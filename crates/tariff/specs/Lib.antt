@@ -3,6 +3,8 @@ pub mod Units
 pub mod Nearest
 pub mod Sheet
 pub mod Curve
+pub mod Point
+pub mod PointExample
 pub mod Reply
 pub mod Checks
 pub mod Outcome

@@ -5,7 +5,7 @@ use lib.IntN.{ℤ}
 use Rattle.tariff.specs.declared.Answer.{Answer}
 use Rattle.tariff.specs.declared.Answer.the-variants.{Paid, Refused}
 use Rattle.tariff.specs.declared.Check.{Check}
-use Rattle.tariff.specs.declared.Check.the-variants.{Form, Range, Order, Curve, Seconds, Derate, Reach, Room, Back}
+use Rattle.tariff.specs.declared.Check.the-variants.{Form, Range, Order, Curve, Seconds, Derate, Reach, Room, Back, Point}
 use Rattle.tariff.specs.declared.Found.{Found}
 use Rattle.tariff.specs.declared.Found.the-variants.{Nothing, Fault}
 
@@ -42,6 +42,9 @@ ROOM = 8
 abbrev pub BACK : ℕ
 BACK = 9
 
+abbrev pub POINT : ℕ
+POINT = 10
+
 abbrev pub numberOf : Check → ℕ
 numberOf (Form line) = FORM
 numberOf (Range line) = RANGE
@@ -52,6 +55,7 @@ numberOf (Derate interval) = DERATE
 numberOf (Reach interval) = REACH
 numberOf Room = ROOM
 numberOf Back = BACK
+numberOf (Point interval) = POINT
 
 abbrev pub placeOf : Check → ℕ
 placeOf (Form line) = line
@@ -63,6 +67,7 @@ placeOf (Derate interval) = interval
 placeOf (Reach interval) = interval
 placeOf Room = 0
 placeOf Back = 2
+placeOf (Point interval) = interval
 
 -- an answer in these words
 abbrev pub told : Answer → Reply

@@ -8,8 +8,8 @@ use lib.Signed.{ltZ, leZ}
 use Rattle.exact.specs.Choice.{if_then_else_}
 use Rattle.exact.specs.Whole.{over, eqZ}
 use Rattle.tariff.specs.declared.Curve.{Curve}
-use Rattle.tariff.specs.declared.Uol.{Uol}
-use Rattle.tariff.specs.declared.Uol.the-variants.{Missing, At}
+use Rattle.tariff.specs.declared.MaybeKw.{MaybeKw}
+use Rattle.tariff.specs.declared.MaybeKw.the-variants.{Missing, At}
 use Rattle.tariff.specs.declared.DayAhead.{DayAhead}
 use Rattle.tariff.specs.declared.Interval.{Interval}
 use Rattle.tariff.specs.Units.{kw, price}
@@ -102,14 +102,21 @@ stepInRange c j = isPower (endOf c j) && isPrice (priceOf c j)
 unfoldable pub curveInRange : Curve → Bool
 curveInRange c = isPower (c .start .0) && allTo (stepInRange c) (c .n)
 
-abbrev pub uolInRange : Uol → Bool
-uolInRange Missing = true
-uolInRange (At limit) = isCapacity (limit .0)
+-- a number that is missing has no range to keep
+abbrev pub givenIn : (ℤ → Bool) → MaybeKw → Bool
+givenIn inRange Missing = true
+givenIn inRange (At k) = inRange (k .0)
+
+abbrev pub uolInRange : MaybeKw → Bool
+uolInRange = givenIn isCapacity
+
+abbrev pub eopInRange : MaybeKw → Bool
+eopInRange = givenIn isPower
 
 unfoldable pub intervalInRange : Interval → Bool
 intervalInRange v =
     isSeconds (v .s .0)
-    && (isPower (v .en .0) && isPower (v .ae .0) && isPower (v .eop .0) && isPower (v .lim .0))
+    && (isPower (v .en .0) && isPower (v .ae .0) && eopInRange (v .eop) && isPower (v .lim .0))
     && (isCapacity (v .r1 .0) && isCapacity (v .r2 .0) && isCapacity (v .r3 .0) && isCapacity (v .reg .0) && isCapacity (v .co .0) && isCapacity (v .mv .0))
     && uolInRange (v .uol)
     && (isBid (v .breg .0) && isBid (v .pmv .0) && isBid (v .bmv .0))

@@ -27,8 +27,9 @@ pub struct Curve {
     pub at: [Price; 12],
 }
 
-// The upper operating limit of a derated unit; `uol=-` on the sheet means no derate.
-pub enum Uol {
+// A power that an interval line may leave out, as `-`: the upper operating limit `uol`, which then derates nothing, and the economic operating
+// point `eop`, which is then worked out from the real-time curve.
+pub enum MaybeKw {
     Missing,
     At(Kw),
 }
@@ -52,10 +53,10 @@ pub struct Interval {
     pub en: Kw,
     pub ae: Kw,
     pub co: Kw,
-    pub eop: Kw,
+    pub eop: MaybeKw,
     pub pen: Price,
     pub lim: Kw,
-    pub uol: Uol,
+    pub uol: MaybeKw,
     pub r1: Kw,
     pub r2: Kw,
     pub r3: Kw,
@@ -112,7 +113,7 @@ pub enum Expected {
 }
 
 // The check that refuses, and its place: a line of the block, or an interval from 1. Four have one place only. Back is request 2's: a day of
-// 23 or 25 hours has no form 1.
+// 23 or 25 hours has no form 1. Point is request 7's: no step to work an operating point out from.
 pub enum Check {
     Form(usize),
     Range(usize),
@@ -123,6 +124,7 @@ pub enum Check {
     Reach(usize),
     Room,
     Back,
+    Point(usize),
 }
 
 // The number of a check in document 01's table, which document 02 continues, and its place.
@@ -139,6 +141,7 @@ pub fn number_of(check: Check) -> u64
         Check::Reach(_) => 7,
         Check::Room => 8,
         Check::Back => 9,
+        Check::Point(_) => 10,
     }
 }
 
@@ -155,6 +158,7 @@ pub fn place_of(check: Check) -> usize
         Check::Reach(interval) => interval,
         Check::Room => 0,
         Check::Back => 2,
+        Check::Point(interval) => interval,
     }
 }
 

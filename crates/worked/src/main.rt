@@ -6,10 +6,10 @@ use tariff::Expected;
 use tariff::Hour;
 use tariff::Interval;
 use tariff::Kw;
+use tariff::MaybeKw;
 use tariff::MovePrice;
 use tariff::Price;
 use tariff::Seconds;
-use tariff::Uol;
 
 // Two steps from 0: the minimum generation block, and the rest up to `end`.
 fn curve_to(end: i64, price: i64) -> Curve {
@@ -34,10 +34,10 @@ fn quarter(en: i64, ae: i64, co: i64, eop: i64, lim: i64) -> Interval {
         en: Kw(en),
         ae: Kw(ae),
         co: Kw(co),
-        eop: Kw(eop),
+        eop: MaybeKw::At(Kw(eop)),
         pen: Price(5000),
         lim: Kw(lim),
-        uol: Uol::Missing,
+        uol: MaybeKw::Missing,
         r1: Kw(0),
         r2: Kw(0),
         r3: Kw(0),

@@ -16,6 +16,8 @@ pub enum Bond {
     Hour(i64),
     /// It is this one.
     Becomes(String),
+    /// It is another one.
+    Differs,
 }
 
 /// Two texts and how their answers are bound.
@@ -61,6 +63,7 @@ impl Bond {
         match self {
             Bond::Same => before == after,
             Bond::Becomes(text) => after == text,
+            Bond::Differs => before != after,
             Bond::Hour(hour) => is_other_hour(before, after, *hour),
             Bond::Cut(at) => match (Paid::of(before), Paid::of(after)) {
                 (Some(before), Some(after)) => is_cut(&before, &after, *at),

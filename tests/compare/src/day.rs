@@ -4,6 +4,7 @@ use second::day::Marks;
 use second::record::Unit;
 use second::{day, Curve, DayAhead, Header, Headers, HourRecord, Interval};
 
+use crate::day_points;
 use crate::day_same;
 use crate::days;
 use crate::events;
@@ -71,6 +72,8 @@ const RECIPES: &[Recipe] = &[
     recipe("lacking headers", 4, three::lacking),
     recipe("headers cut at a byte", 2, three::cut),
     recipe("damaged headers", 3, three::damaged),
+    recipe("days by points", 2, day_points::by_points),
+    recipe("points of excluded hours", 4, day_points::excluded),
     recipe("any blocks", 10, any_blocks),
     recipe("blocks that end", 2, block_ends),
     recipe("blocks out of order", 3, out_of_order),
@@ -101,11 +104,12 @@ pub fn any_headers(rng: &mut Rng) -> Headers {
 }
 
 /// A day of a form and count between neighbours that exclude none of its hours.
-fn quiet(rng: &mut Rng, said: Said) -> Headers {
+pub fn quiet(rng: &mut Rng, said: Said) -> Headers {
     three::around(rng, plain(said), three::quiet)
 }
 
-fn set_marks(rng: &mut Rng, marks: &mut Marks, once_in: usize) {
+/// Sets marks of a row, one in so many.
+pub fn set_marks(rng: &mut Rng, marks: &mut Marks, once_in: usize) {
     for mark in marks {
         *mark = u8::from(rng.once_in(once_in));
     }
@@ -126,7 +130,7 @@ pub fn paying(hour: usize) -> HourRecord {
     };
     let off = Interval {
         en: 0,
-        eop: 0,
+        eop: Some(0),
         pen: 10 + 40 * (hour as i64 + 1),
         ..still(&line, 900)
     };
@@ -191,7 +195,7 @@ pub fn around_a_cent(rng: &mut Rng, turn: usize) -> Vec<u8> {
 
 /// The mark of a row, 0 to 6: x4 to x6, no category, x1 to x3. And another one
 /// far away.
-fn mark(header: &mut Header, row: usize, hour: usize, other: usize) {
+pub fn mark(header: &mut Header, row: usize, hour: usize, other: usize) {
     match row {
         0..=2 => header.x[3 + row][hour] = 1,
         3 => header.cat[hour] = 0,

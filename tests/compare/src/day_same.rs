@@ -1,8 +1,9 @@
 //! Pairs of days that pay the same: headers of the other form, neighbours that do
-//! nothing, or one paid hour changed.
+//! nothing, one paid hour changed, or the curves of an excluded one.
 
 use crate::bonds::{Bond, Pair};
 use crate::day::{all_paying, any_blocks, any_headers, by_count, good, many_marks, text};
+use crate::day_points;
 use crate::midnight;
 use crate::random::Rng;
 use crate::same;
@@ -13,6 +14,7 @@ pub fn pair(rng: &mut Rng, turn: usize) -> Pair {
     match turn % 8 {
         3 | 7 => other_form(rng, turn),
         5 => midnight::other_neighbours(rng),
+        1 if turn % 3 == 0 => day_points::excluded_curves(rng),
         _ => other_hour(rng, turn),
     }
 }
@@ -24,7 +26,7 @@ fn other_hour(rng: &mut Rng, turn: usize) -> Pair {
     let place = rng.below(count);
     let mut hours = all_paying(count);
     let (mut record, mut change) = same::changed(rng, turn, same::CHANGES, true);
-    while matches!(change.bond, Bond::Becomes(_) | Bond::Hour(_)) {
+    while !matches!(change.bond, Bond::Same | Bond::Cut(_) | Bond::Order(_)) {
         let other = rng.below(99);
         (record, change) = same::changed(rng, other, same::CHANGES, true);
     }

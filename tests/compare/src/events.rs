@@ -5,12 +5,12 @@ use std::cmp::Ordering;
 use std::ops::RangeInclusive;
 
 use second::curve::CurveFault;
-use second::energy;
+use second::energy::{self, Amounts};
 use second::import::{CountedImportLine, ImportHourLine, ImportInterval};
 use second::record::{Kind, Unit};
 use second::text::{Fault, Number, SheetLine, Side};
 use second::trace::{DerateKind, ImportTest, Nth, Spot};
-use second::{Check, Curve, Event, Interval, MidnightEvent, Run};
+use second::{Check, Curve, Event, Interval, MidnightEvent, PointKind, Run};
 
 /// Below, on it, above.
 pub(crate) const ORDERS: [Ordering; 3] = [Ordering::Less, Ordering::Equal, Ordering::Greater];
@@ -19,6 +19,9 @@ const SIDES: [Side; 2] = [Side::Below, Side::Above];
 
 /// Where a number, which has seven digits at most, cannot lie.
 const UNREACHABLE: (i64, Side) = (9_999_999, Side::Above);
+
+/// An excluded hour without a curve was not asked for a point.
+const SPARED: Event = Event::Point(PointKind::NowhereExcluded);
 
 /// What the program `hour` can reach.
 pub fn of_hour() -> Vec<Event> {
@@ -29,6 +32,9 @@ pub fn of_hour() -> Vec<Event> {
     };
     let mut events: Vec<Event> = Event::refusals().into_iter().filter(in_hour).collect();
     events.extend(Event::limits());
+    // Only an excluded hour is spared as a whole.
+    events.extend(Event::points());
+    events.retain(|event| *event != SPARED);
     events.extend(forms_of_hour());
     events.extend(ranges_of_hour::<Unit>());
     events.extend(curves());
@@ -41,9 +47,11 @@ pub fn of_hour() -> Vec<Event> {
 }
 
 /// What the block call can reach: what `hour` can, and the two checks that it
-/// never meets, since it expects no hour and lends a row that is long enough.
+/// never meets, since it expects no hour and lends a row that is long enough; and
+/// excluded hours.
 pub fn of_block() -> Vec<Event> {
     let mut events = of_hour();
+    events.push(SPARED);
     events.push(Event::Refused(Check::Order, Spot::DayAheadLine));
     events.push(Event::Refused(Check::Room, Spot::WholeHour));
     events
@@ -52,6 +60,7 @@ pub fn of_block() -> Vec<Event> {
 /// What the program `day` can reach.
 pub fn of_day() -> Vec<Event> {
     let mut events = of_hour();
+    events.push(SPARED);
     events.push(Event::Refused(Check::Order, Spot::DayAheadLine));
     events.extend(Event::exclusions());
     events.extend([5, 6].map(Event::MarkWithoutRtc));
@@ -251,11 +260,10 @@ fn limits() -> Vec<Event> {
                         en,
                         ae,
                         co: 9,
-                        eop,
                         ..Interval::default()
                     };
-                    let d = i128::from(d);
-                    let _ = energy::contribution(d, &interval, &curve, &curve, &mut run);
+                    let amounts = Amounts::of(d.into(), &interval, eop.into());
+                    let _ = energy::contribution(amounts, &interval, &curve, &curve, &mut run);
                 }
             }
         }
@@ -290,10 +298,10 @@ mod tests {
     }
 
     #[test]
-    fn every_refusal_and_count_belongs_to_a_program_or_a_call() {
+    fn every_refusal_count_and_point_belongs_to_a_program_or_a_call() {
         let of_days = [of_day(), of_import(), of_line()].concat();
         let known = [of_block(), of_days, of_up(), of_down()].concat();
-        for event in [Event::refusals(), Event::counts()].concat() {
+        for event in [Event::refusals(), Event::counts(), Event::points()].concat() {
             assert!(known.contains(&event), "{event:?}");
         }
     }

@@ -10,7 +10,10 @@ use crate::damage::{self, set_value, with_surplus, Sheet, BROKEN_PAIRS, NO_NUMBE
 use crate::events;
 use crate::hours::{self, still, sum_and_room};
 use crate::kinds::Made;
+use crate::missing;
 use crate::plan::{recipe, Program, Recipe};
+use crate::point_faults;
+use crate::point_hours;
 use crate::random::Rng;
 use crate::same;
 use crate::stretches::{curve_of, hull, trim};
@@ -43,6 +46,15 @@ const RECIPES: &[Recipe] = &[
     recipe("just reached", 4, reach::<Unit>),
     recipe("derates", 4, derate),
     recipe("lagging", 2, lagging),
+    recipe("points at steps", 4, point_hours::at_steps),
+    recipe("points of few kilowatts", 3, point_hours::few),
+    recipe("points of derated hours", 1, point_hours::derated),
+    recipe("points at the reach", 2, point_hours::at_reach),
+    recipe("points of the widest curve", 1, |rng, _| {
+        good(rng, point_hours::widest)
+    }),
+    recipe("points among faults", 2, point_faults::among_faults),
+    recipe("lone minuses", 1, missing::lone_minus),
     recipe("seconds", 2, seconds::<Unit>),
     recipe("just out of range", 4, out_of_range::<Unit>),
     recipe("no numbers", 3, no_number::<Unit>),
@@ -104,7 +116,7 @@ pub fn nth(rng: &mut Rng, turn: usize) -> (usize, usize) {
 
 /// The lines of an hour that differ in kind, in turn: 1, 2, 3, the first
 /// interval, one between, the thirtieth. A sheet and its line, from 0.
-fn nth_line<K: Made>(rng: &mut Rng, turn: usize) -> (Sheet, usize) {
+pub fn nth_line<K: Made>(rng: &mut Rng, turn: usize) -> (Sheet, usize) {
     let mut record = with_curves::<K>(rng);
     let (count, line) = match turn % 6 {
         line @ 0..=2 => (hours::count(rng), line),
@@ -158,7 +170,7 @@ fn largest(rng: &mut Rng) -> HourRecord {
             en: rng.pick(&[low, high, 0]),
             ae: rng.pick(&[high, low + 1]),
             co: power,
-            eop: rng.pick(&[low, high, 0]),
+            eop: rng.pick(&[Some(low), Some(high), Some(0), None]),
             pen: price,
             lim: low,
             uol: None,
@@ -455,7 +467,8 @@ pub fn wrong_pairs<K: Made>(rng: &mut Rng, turn: usize) -> Vec<u8> {
     block_of_sheet(rng, &sheet)
 }
 
-fn block_of_sheet(rng: &mut Rng, sheet: &Sheet) -> Vec<u8> {
+/// The text of a sheet, closed by an empty line or by its end.
+pub fn block_of_sheet(rng: &mut Rng, sheet: &Sheet) -> Vec<u8> {
     let mut text = sheet.text();
     if rng.once_in(2) {
         text.push(b'\n');

@@ -7,6 +7,7 @@ use second::text::{Range, BID, ENERGY, HOUR, POWER, PRICE};
 use second::{hour, Answer, Ask, Curve, DayAhead, HourRecord, Interval, Run, Way};
 
 use crate::kinds::Made;
+use crate::points;
 use crate::random::Rng;
 
 /// Seconds of an hour.
@@ -175,6 +176,7 @@ fn unit(rng: &mut Rng, low: i64, high: i64) -> HourRecord {
         .map(|s| unit_interval(rng, s, &record.day_ahead, &place))
         .collect();
     record.set_intervals(&intervals);
+    points::leave(rng, &mut record);
     record
 }
 
@@ -238,7 +240,7 @@ fn unit_interval(rng: &mut Rng, s: i64, line: &DayAhead, unit: &Unit) -> Interva
         en,
         ae,
         co: product(rng, unit.spare),
-        eop,
+        eop: Some(eop),
         pen: market_price(rng),
         lim,
         uol: None,
@@ -365,6 +367,7 @@ fn loose(rng: &mut Rng, draw: Draw) -> HourRecord {
         .map(|s| loose_interval(rng, s, &record.day_ahead, draw, habits))
         .collect();
     record.set_intervals(&intervals);
+    points::leave(rng, &mut record);
     record
 }
 
@@ -383,7 +386,7 @@ fn loose_interval(rng: &mut Rng, s: i64, line: &DayAhead, draw: Draw, habits: Ha
         en,
         ae,
         co: draw.of(rng, draw.power),
-        eop: draw.of(rng, draw.energy),
+        eop: Some(draw.of(rng, draw.energy)),
         pen: draw.of(rng, draw.price),
         lim,
         uol: None,
@@ -448,7 +451,7 @@ pub fn still(line: &DayAhead, s: i64) -> Interval {
         s,
         en: line.en,
         ae: 0,
-        eop: line.en,
+        eop: Some(line.en),
         lim: -1,
         reg: line.reg,
         r1: line.r1,

@@ -6,6 +6,7 @@ use second::record::{Kind, Record, Unit};
 use second::text::ENERGY;
 use second::{DayAhead, HourRecord, Interval, LineAhead, LineInterval, LineRecord};
 
+use crate::points;
 use crate::random::Rng;
 use crate::stretches::{self, Priced};
 use crate::{hour, hours, lines};
@@ -15,8 +16,15 @@ pub trait Made: Kind {
     /// An hour of any sort, with curves that reach for the most part.
     fn any(rng: &mut Rng) -> Record<Self>;
 
-    /// An hour that is not refused: its curves reach everywhere.
+    /// An hour that is not refused: its curves reach everywhere. Its points do
+    /// not go by them, so that they can be cut down.
     fn reaching(rng: &mut Rng) -> Record<Self>;
+
+    /// What the real-time curve gives to each interval that is asked for its
+    /// point and leaves that to the curve. Only generators have points.
+    fn points(_: &Record<Self>) -> Vec<Option<i64>> {
+        Vec::new()
+    }
 
     /// An interval that asks for no curve and contributes 0.
     fn still(line: &Self::Ahead, s: i64) -> Self::Interval;
@@ -45,7 +53,11 @@ impl Made for Unit {
     }
 
     fn reaching(rng: &mut Rng) -> HourRecord {
-        hour::reaching(rng)
+        points::said(&hour::reaching(rng))
+    }
+
+    fn points(record: &HourRecord) -> Vec<Option<i64>> {
+        points::of_hour(record)
     }
 
     fn still(line: &DayAhead, s: i64) -> Interval {

@@ -5,7 +5,10 @@
 //! - [`hours`], [`lines`] and [`line_hours`]: hours of generators and of
 //!   internal controllable lines as records; [`kinds`] says what their making
 //!   has in common, and [`stretches`] what they need a price for;
-//! - [`damage`]: what can happen to a text;
+//! - [`points`], [`point_hours`] and [`point_faults`]: points that lines leave to
+//!   the curve, hours that show them, and hours that lack them;
+//! - [`damage`] and [`missing`]: what can happen to a text, and what stands where
+//!   a number lacks;
 //! - [`pieces`] and [`days`]: texts of a head and the blocks of a day;
 //! - [`headers`], [`line_heads`] and [`rows`]: the headers of day sheets, the
 //!   heads of lines' days, and the rows of marks in both;
@@ -13,9 +16,10 @@
 //!   are wrong, and marks that reach from one day into the other;
 //! - [`stored`]: sheets that go up or down;
 //! - [`hour`], [`day`], [`import`], [`mod@line`], [`archive`]: the texts of each
-//!   program, recipe by recipe; and [`line_block`]: the blocks of a line;
+//!   program, recipe by recipe; [`line_block`]: the blocks of a line; and
+//!   [`day_points`]: days of hours with points;
 //! - [`bonds`]: pairs of texts whose answers are bound to each other, made by
-//!   [`same`], [`day_same`] and [`line_same`];
+//!   [`same`], [`point_pairs`], [`day_same`] and [`line_same`];
 //! - [`events`] and [`line_events`]: what the texts of each program have to
 //!   reach;
 //! - [`written`] and [`answers`]: what programs write, and where it differs;
@@ -32,6 +36,7 @@ pub mod arguments;
 pub mod bonds;
 pub mod damage;
 pub mod day;
+pub mod day_points;
 pub mod day_same;
 pub mod days;
 pub mod events;
@@ -48,9 +53,14 @@ pub mod line_hours;
 pub mod line_same;
 pub mod lines;
 pub mod midnight;
+pub mod missing;
 pub mod outside;
 pub mod pieces;
 pub mod plan;
+pub mod point_faults;
+pub mod point_hours;
+pub mod point_pairs;
+pub mod points;
 pub mod random;
 pub mod rows;
 pub mod run;
@@ -63,6 +73,8 @@ pub mod written;
 
 #[cfg(test)]
 mod cents;
+#[cfg(test)]
+mod other_points;
 
 /// Every program that can be compared.
 pub const PROGRAMS: [&plan::Program; 6] = [

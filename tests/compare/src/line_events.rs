@@ -10,7 +10,7 @@ use crate::events::{curves, forms_of_hour, is_of_hour, malformed, ranges_of_hour
 /// What a call with a block, a row and an expected hour can reach.
 pub fn of_line_block() -> Vec<Event> {
     let in_block = |event: &Event| match event {
-        Event::Refused(Check::Derate, _) => false,
+        Event::Refused(Check::Point | Check::Derate, _) => false,
         Event::Refused(_, spot) => is_of_hour(*spot),
         _ => false,
     };

@@ -136,16 +136,18 @@ pub fn marked_days(rng: &mut Rng, said: [Said; 3]) -> Vec<u8> {
     })
 }
 
-/// Hours of which many would be refused for a derate or a price, were they not
-/// excluded from over midnight: those next to it are, for the most part.
+/// Hours of which many would be refused for a point, a derate or a price, were
+/// they not excluded from over midnight: those next to it are, for the most part.
 pub fn spared(rng: &mut Rng, _: usize) -> Vec<u8> {
     let said = [any_said(rng), any_said(rng), any_said(rng)];
     let own = plain(said[0]);
     let hours = each_hour(own.cat.len(), |place| {
         let mut record = paying(place);
-        match rng.below(3) {
+        match rng.below(4) {
             0 => record.intervals[rng.below(4)].uol = Some(0),
             1 => record.da = Curve::default(),
+            // These hours have no real-time curve.
+            2 => record.intervals[rng.below(4)].eop = None,
             _ => {}
         }
         record

@@ -10,8 +10,9 @@ use crate::bonds::{Bond, Pair};
 use crate::damage::with_surplus;
 use crate::hours::{self, is_paid, sum_and_room};
 use crate::kinds::Made;
+use crate::point_pairs;
 use crate::random::Rng;
-use crate::stretches::{curve_of, hull, trim, Priced};
+use crate::stretches::{curve_of, hull, trim, with_points, Priced};
 
 /// An hour, changed, and how its answer is bound to the old one.
 pub struct Change<K: Made> {
@@ -41,6 +42,14 @@ pub const CHANGES: &Changes<Unit> = &[
     fits_or_none,
     while_lagging,
     other_hour,
+    point_pairs::cut_otherwise,
+    point_pairs::point_said,
+    point_pairs::price_not_asked,
+    point_pairs::behind_a_missing_point,
+    point_pairs::no_curve,
+    point_pairs::step_behind,
+    point_pairs::dear_step_in_front,
+    point_pairs::other_price,
 ];
 
 /// Hours tried before a change is given up for the next one.
@@ -94,7 +103,7 @@ fn surplus(rng: &mut Rng) -> Pair {
 }
 
 /// The curve with one step cut in two of the same price, if one can be cut.
-fn cut_step(rng: &mut Rng, curve: &Curve) -> Option<Curve> {
+pub fn cut_step(rng: &mut Rng, curve: &Curve) -> Option<Curve> {
     let mut steps = steps_of(curve);
     let at = rng.below(steps.len());
     let (to, price) = *steps.get(at)?;
@@ -110,7 +119,8 @@ fn cut_step(rng: &mut Rng, curve: &Curve) -> Option<Curve> {
     Some(Curve::new(curve.start, &steps))
 }
 
-fn steps_of(curve: &Curve) -> Vec<(i64, i64)> {
+/// The ends and prices of a curve's steps.
+pub fn steps_of(curve: &Curve) -> Vec<(i64, i64)> {
     curve.used().iter().map(|step| (step.to, step.at)).collect()
 }
 
@@ -138,9 +148,21 @@ pub fn cut_rt_step<K: Made>(rng: &mut Rng, record: &Record<K>) -> Option<Change<
     )
 }
 
-fn same<K: Made>(name: &'static str, after: Record<K>) -> Option<Change<K>> {
+/// A change that the answer does not show.
+pub fn same<K: Made>(name: &'static str, after: Record<K>) -> Option<Change<K>> {
     let bond = Bond::Same;
     Some(Change { name, after, bond })
+}
+
+/// A change of curves where no price is needed, which the answer does not show if
+/// the curves give the same points, or both lack them. An hour whose lines say all
+/// of their points asks no curve for one.
+pub fn alike<K: Made>(
+    name: &'static str,
+    record: &Record<K>,
+    after: Record<K>,
+) -> Option<Change<K>> {
+    (K::points(record) == K::points(&after)).then(|| same(name, after))?
 }
 
 /// The first step may be dearer than the second, but the half of one may not.
@@ -187,7 +209,7 @@ pub fn add_behind<K: Made>(rng: &mut Rng, record: &Record<K>) -> Option<Change<K
     if to > ENERGY.high || steps.len() > MOST_STEPS || !is_paid(record) {
         return None;
     }
-    same("curve added behind", after)
+    alike("curve added behind", record, after)
 }
 
 /// So does more curve in front: a longer first step, or a step more.
@@ -208,21 +230,21 @@ pub fn add_in_front<K: Made>(rng: &mut Rng, record: &Record<K>) -> Option<Change
         return None;
     }
     *curve = longer;
-    same("curve added in front", after)
+    alike("curve added in front", record, after)
 }
 
-/// Curves cut down to the kilowatts that are priced.
+/// Curves cut down to the kilowatts that are priced, and to the points.
 pub fn just_reaching<K: Made>(_: &mut Rng, record: &Record<K>) -> Option<Change<K>> {
     if !is_paid(record) {
         return None;
     }
     let mut after = record.clone();
     let parts = K::priced(record);
-    for (day_ahead, curve) in [(true, &mut after.da), (false, &mut after.rt)] {
-        let (low, high) = hull(&parts, day_ahead).unwrap_or((0, 0));
-        *curve = trim(curve, low, high);
-    }
-    same("curves that just reach", after)
+    let (low, high) = hull(&parts, true).unwrap_or((0, 0));
+    after.da = trim(&record.da, low, high);
+    let (low, high) = with_points(&record.rt, hull(&parts, false), &K::points(record));
+    after.rt = trim(&record.rt, low, high);
+    alike("curves that just reach", record, after)
 }
 
 /// And one kilowatt further: the first interval that asks for it is refused.
@@ -249,6 +271,9 @@ pub fn just_missing<K: Made>(rng: &mut Rng, record: &Record<K>) -> Option<Change
         part.day_ahead == day_ahead && meets
     };
     let first = parts.iter().find(asks)?.interval + 1;
+    if K::points(record) != K::points(&after) {
+        return None;
+    }
     Some(Change {
         name: "curve one kilowatt short",
         after,
@@ -268,7 +293,7 @@ pub fn curve_not_asked<K: Made>(rng: &mut Rng, record: &Record<K>) -> Option<Cha
         0 => Curve::default(),
         _ => hours::curve(rng, -40, 40, |rng| rng.within(PRICE)),
     };
-    same("curve that is not asked", after)
+    alike("curve that is not asked", record, after)
 }
 
 /// An interval as two lines: seconds and movement sum to the old ones.
@@ -336,7 +361,7 @@ fn while_lagging(rng: &mut Rng, record: &HourRecord) -> Option<Change<Unit>> {
                 en: rng.edge(ENERGY),
                 ae: interval.ae,
                 co: rng.edge(POWER),
-                eop: rng.edge(ENERGY),
+                eop: Some(rng.edge(ENERGY)).filter(|_| rng.once_in(2)),
                 pen: rng.edge(PRICE),
                 lim: interval.lim,
                 uol: Some(rng.edge(POWER)).filter(|_| rng.once_in(2)),

@@ -4,7 +4,7 @@
 use second::derate::{day_ahead_schedules, real_time_schedules, reduced};
 use second::energy::{limit, Amounts};
 use second::record::{Kind, Record};
-use second::{Curve, HourRecord, Trace};
+use second::{point, Curve, HourRecord, Run, Trace, Way};
 
 /// The kilowatts of a curve that an interval needs a price for.
 #[derive(Clone, Copy, Debug, PartialEq, Eq)]
@@ -19,7 +19,8 @@ pub struct Priced {
     pub high: i64,
 }
 
-/// What each interval needs a price for, up to one whose derate is refused.
+/// What each interval needs a price for, up to one that is refused for its point
+/// or its derate.
 pub fn priced(record: &HourRecord) -> Vec<Priced> {
     let mut priced = Vec::new();
     let day_ahead = day_ahead_schedules(&record.day_ahead);
@@ -28,10 +29,13 @@ pub fn priced(record: &HourRecord) -> Vec<Priced> {
             continue;
         }
         let real_time = real_time_schedules(line);
+        let Ok(e) = point::of_interval(record, line, &mut Run::quiet(Way::Steps)) else {
+            break;
+        };
         let Ok(left) = reduced(day_ahead, real_time, line.uol, &mut Trace::off()) else {
             break;
         };
-        let (branch, kw) = limit(Amounts::of(left[0], line));
+        let (branch, kw) = limit(Amounts::of(left[0], line, e));
         if kw != left[0] {
             priced.push(Priced {
                 interval,
@@ -53,6 +57,25 @@ pub fn hull(priced: &[Priced], day_ahead: bool) -> Option<(i64, i64)> {
     Some((low, high))
 }
 
+/// The part of a real-time curve that has to price this, if anything, and that
+/// gives these points as the whole curve does. A point alone takes the kilowatt
+/// below it, which is worth its price, or the dear one above the curve's start.
+pub fn with_points(
+    curve: &Curve,
+    priced: Option<(i64, i64)>,
+    points: &[Option<i64>],
+) -> (i64, i64) {
+    let ends = priced.into_iter().flat_map(|(low, high)| [low, high]);
+    let mut all: Vec<i64> = ends.chain(points.iter().flatten().copied()).collect();
+    all.sort_unstable();
+    match (all.first(), all.last()) {
+        (Some(low), Some(high)) if low < high => (*low, *high),
+        (Some(point), _) if *point > curve.start => (point - 1, *point),
+        (Some(point), _) => (*point, point + 1),
+        _ => (0, 0),
+    }
+}
+
 /// One of an hour's two curves.
 pub fn curve_of<K: Kind>(record: &mut Record<K>, day_ahead: bool) -> &mut Curve {
     if day_ahead {
@@ -60,6 +83,11 @@ pub fn curve_of<K: Kind>(record: &mut Record<K>, day_ahead: bool) -> &mut Curve 
     } else {
         &mut record.rt
     }
+}
+
+/// The last end of a curve.
+pub fn end_of(curve: &Curve) -> i64 {
+    curve.used().last().map_or(curve.start, |step| step.to)
 }
 
 /// The part of a curve from `low` to `high`; an empty curve if there is none.
@@ -82,6 +110,7 @@ pub fn trim(curve: &Curve, low: i64, high: i64) -> Curve {
 #[cfg(test)]
 mod tests {
     use super::*;
+    use crate::points;
 
     #[test]
     fn a_trimmed_curve_prices_the_same_kilowatts() {
@@ -97,5 +126,27 @@ mod tests {
                 }
             }
         }
+    }
+
+    #[test]
+    fn a_curve_cut_down_to_its_points_gives_them() {
+        for rt in [
+            Curve::new(-5, &[(-3, 9), (0, 1), (4, 2), (5, 7)]),
+            Curve::new(-5, &[(-3, 1), (0, 2), (4, 7), (5, 9)]),
+            Curve::new(2, &[(3, 5)]),
+        ] {
+            for (one, other) in (0..11).flat_map(|one| (0..11).map(move |other| (one, other))) {
+                for priced in [None, Some((-1, 2)), Some((2, 3))] {
+                    let points = [one, other].map(|pen| points::found(&rt, pen));
+                    // An hour that is paid has all the prices it needs.
+                    let priced = priced.filter(|(low, _)| rt.price((*low).into()).is_some());
+                    let (low, high) = with_points(&rt, priced, &points);
+                    let part = trim(&rt, low, high);
+                    let kept = [one, other].map(|pen| points::found(&part, pen));
+                    assert_eq!(kept, points, "{part:?} at {one} and {other}");
+                }
+            }
+        }
+        assert_eq!(with_points(&Curve::default(), None, &[]), (0, 0));
     }
 }

@@ -132,6 +132,7 @@ fn is_counted(event: Event) -> bool {
         Refused(..)
             | Limit(_)
             | Derate(_)
+            | Point(_)
             | Lagging(_)
             | Excluded(_)
             | Import(_)

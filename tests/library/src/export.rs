@@ -46,7 +46,7 @@ pub const EXPORTS: [&Export; 2] = [
         name: "line-block",
         recipes: line_block::RECIPES,
         wanted: line_events::of_line_block,
-        answers: Answered::all_but_derate,
+        answers: Answered::of_a_line,
         archive: archive::line_block,
         second: second::line::judge_block,
         said: said::<Controllable>,

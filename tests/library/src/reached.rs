@@ -74,7 +74,7 @@ impl Answered {
     /// Everything that calls can reach.
     pub fn all() -> Vec<Self> {
         let mut all = Vec::new();
-        for number in 0..=8 {
+        for number in (0..=10).filter(|number| *number != 9) {
             for room in Room::ALL {
                 for hour in [Hour::Any, Hour::Own, Hour::Other] {
                     for excluded in [false, true] {
@@ -92,16 +92,17 @@ impl Answered {
         all
     }
 
-    /// The same for the blocks that no derate can refuse.
-    pub fn all_but_derate() -> Vec<Self> {
+    /// The same for a controllable line's blocks, which neither a derate nor an
+    /// operating point can refuse.
+    pub fn of_a_line() -> Vec<Self> {
         let mut all = Answered::all();
-        all.retain(|answered| answered.number != 6);
+        all.retain(|answered| !matches!(answered.number, 6 | 10));
         all
     }
 
     /// FORM and RANGE come before the hour is looked at, and another hour goes
-    /// no further than ORDER. An excluded hour asks for neither DERATE nor
-    /// REACH; room is asked for last.
+    /// no further than ORDER. An excluded hour asks for neither POINT, DERATE
+    /// nor REACH; room is asked for last, and no block is a sheet that moves.
     fn can_be(&self) -> bool {
         let hour = match self.number {
             1 | 2 => true,
@@ -110,7 +111,7 @@ impl Answered {
         };
         let rest = match self.number {
             0 => self.room.is_enough(),
-            6 | 7 => !self.excluded,
+            6 | 7 | 10 => !self.excluded,
             8 => !self.room.is_enough(),
             _ => true,
         };
@@ -241,14 +242,14 @@ mod tests {
     }
 
     #[test]
-    fn a_derate_refuses_hours_that_are_not_excluded() {
-        let (all, rest) = (Answered::all(), Answered::all_but_derate());
-        let derates = all.iter().filter(|answered| !rest.contains(answered));
-        // Any hour or the block's own, with a row of each kind.
-        assert_eq!(derates.clone().count(), 2 * Room::ALL.len());
-        assert_eq!(all.len() - rest.len(), derates.clone().count());
-        for derate in derates {
-            assert!(derate.number == 6 && !derate.excluded, "{derate:?}");
+    fn derate_and_point_refuse_hours_that_are_not_excluded() {
+        let (all, rest) = (Answered::all(), Answered::of_a_line());
+        let generators = all.iter().filter(|answered| !rest.contains(answered));
+        // Either of them, any hour or the block's own, with a row of each kind.
+        assert_eq!(generators.clone().count(), 2 * 2 * Room::ALL.len());
+        assert_eq!(all.len() - rest.len(), generators.clone().count());
+        for own in generators {
+            assert!(matches!(own.number, 6 | 10) && !own.excluded, "{own:?}");
         }
     }
 

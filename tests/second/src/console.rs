@@ -8,7 +8,7 @@ use crate::archive::Moved;
 use crate::curve::Way;
 use crate::Run;
 
-/// The argument that asks for costs kilowatt by kilowatt.
+/// The argument that asks for curves to be read kilowatt by kilowatt.
 const BY_KILOWATTS: &str = "--kilowatts";
 
 /// The run that the program's arguments ask for.

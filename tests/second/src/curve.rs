@@ -25,13 +25,14 @@ pub struct Curve {
     pub steps: [Step; MOST_STEPS],
 }
 
-/// How the cost of a stretch is summed. Both ways give the same.
+/// How the cost of a stretch is summed, and the operating point found. Both ways
+/// give the same.
 #[derive(Clone, Copy, Debug, Default, PartialEq, Eq)]
 pub enum Way {
-    /// Step by step: the kW of the stretch in each step times its price.
+    /// By steps: the kW of the stretch in each step times its price.
     #[default]
     Steps,
-    /// Kilowatt by kilowatt: the price of each kW of the stretch.
+    /// Kilowatt by kilowatt: the price of each kW.
     Kilowatts,
 }
 

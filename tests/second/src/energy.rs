@@ -20,13 +20,14 @@ pub struct Amounts {
 }
 
 impl Amounts {
-    /// The amounts of an interval with the day-ahead schedule `d`.
-    pub fn of(d: i128, interval: &Interval) -> Self {
+    /// The amounts of an interval with the day-ahead schedule `d` and the
+    /// economic operating point `e`.
+    pub fn of(d: i128, interval: &Interval, e: i128) -> Self {
         Amounts {
             d,
             r: i128::from(interval.en),
             a: actual(interval),
-            e: i128::from(interval.eop),
+            e,
         }
     }
 }
@@ -87,13 +88,13 @@ fn upper(Amounts { d, r, a, e }: Amounts) -> (Branch, i128) {
 /// and costs the real-time bid, and only its gain is set against the rest, as
 /// a negative amount.
 pub fn contribution(
-    d: i128,
+    amounts: Amounts,
     interval: &Interval,
     da: &Curve,
     rt: &Curve,
     run: &mut Run,
 ) -> Result<i128, Check> {
-    let amounts = Amounts::of(d, interval);
+    let d = amounts.d;
     let (branch, limit) = limit(amounts);
     note(amounts, interval, branch, limit, &mut run.trace);
     let bought_back = (d - limit) * i128::from(interval.pen);

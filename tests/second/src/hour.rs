@@ -141,7 +141,7 @@ fn malformed((line, fault): LineFault, trace: &mut Trace) -> Refusal {
     refusal
 }
 
-/// Checks 2 to 8 and the payment of an hour in good form.
+/// Every check but FORM, and the payment of an hour in good form.
 fn settle<K: Kind>(
     record: &Record<K>,
     ask: Ask,
@@ -224,8 +224,8 @@ pub(crate) fn whole_hour(seconds: impl Iterator<Item = i64>) -> Result<(), Refus
     }
 }
 
-/// The contributions of all intervals, up to the first that a derate or a
-/// curve cannot serve. An excluded hour asks neither.
+/// The contributions of all intervals, up to the first that is refused for what
+/// it asks of a derate or a curve. An excluded hour asks nothing.
 fn contributions<K: Kind>(
     record: &Record<K>,
     excluded: bool,

@@ -3,7 +3,8 @@
 use std::cmp::Ordering;
 
 use crate::derate::{day_ahead_schedules, real_time_schedules, reduced};
-use crate::energy;
+use crate::energy::{self, Amounts};
+use crate::point::{self, PointKind};
 use crate::record::{HourRecord, Interval};
 use crate::refusal::Check;
 use crate::trace::{Event, Trace};
@@ -12,20 +13,25 @@ use crate::Run;
 /// One kW of movement at one cent per MW is 3,600 grains, whatever the seconds.
 const GRAINS_OF_MOVEMENT: i128 = 3600;
 
-/// The grains of one interval of an eligible hour, or DERATE or REACH.
+/// The grains of one interval of an eligible hour, or POINT, DERATE or REACH, of
+/// which the first stands.
 pub fn contribution(
     record: &HourRecord,
     interval: &Interval,
     run: &mut Run,
 ) -> Result<i128, Check> {
     if lags(interval, &mut run.trace) {
+        let spared = PointKind::NowhereLagging;
+        point::note_spared(record, interval, spared, &mut run.trace);
         return Ok(0);
     }
+    let e = point::of_interval(record, interval, run)?;
     let day_ahead = day_ahead_schedules(&record.day_ahead);
     let real_time = real_time_schedules(interval);
     let left = reduced(day_ahead, real_time, interval.uol, &mut run.trace)?;
     let [en, reg, r1, r2, r3] = left;
-    let energy = energy::contribution(en, interval, &record.da, &record.rt, run)?;
+    let amounts = Amounts::of(en, interval, e);
+    let energy = energy::contribution(amounts, interval, &record.da, &record.rt, run)?;
     let reserves = reserves(record, interval, [r1, r2, r3], &mut run.trace);
     let regulation = regulation(record, interval, reg, &mut run.trace);
     Ok(energy + reserves + regulation - movement(interval, &mut run.trace))

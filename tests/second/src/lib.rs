@@ -59,6 +59,7 @@ pub mod line_event;
 mod line_head;
 pub mod midnight;
 mod midnight_note;
+pub mod point;
 pub mod record;
 pub mod refusal;
 pub mod text;
@@ -73,6 +74,7 @@ pub use joined::Headers;
 pub use line::{LineAhead, LineHead, LineInterval, LineRecord};
 pub use line_event::{LineBranch, LineEvent};
 pub use midnight::{MidnightEvent, Neighbour};
+pub use point::PointKind;
 pub use record::{DayAhead, HourRecord, Interval};
 pub use refusal::{Check, HeaderRefusal, Refusal};
 pub use trace::{Event, Trace};
@@ -80,14 +82,14 @@ pub use trace::{Event, Trace};
 /// How a call works and what it noted on the way.
 #[derive(Clone, Debug, Default)]
 pub struct Run {
-    /// How the cost of a stretch of a curve is summed.
+    /// How the curves are read.
     pub way: Way,
     /// What the inputs of this run reached so far.
     pub trace: Trace,
 }
 
 impl Run {
-    /// A run that sums costs in the given way and keeps a trace.
+    /// A run that reads curves in the given way and keeps a trace.
     pub fn new(way: Way) -> Self {
         Run {
             way,

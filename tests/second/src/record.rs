@@ -4,6 +4,7 @@ use std::fmt::Debug;
 
 use crate::curve::{Curve, MOST_STEPS};
 use crate::interval;
+use crate::point::{self, PointKind};
 use crate::refusal::Check;
 use crate::text::{
     read_at, sheet_line, Fault, Line, LineFault, Number, SheetLine, BID, ENERGY, HOUR, POWER,
@@ -54,8 +55,8 @@ sheet_line! {
         ae: i64 => ENERGY,
         /// Compensable overgeneration.
         co: i64 => POWER,
-        /// Economic operating point.
-        eop: i64 => ENERGY,
+        /// Economic operating point; missing where the real-time curve gives it.
+        eop: Option<i64> => ENERGY,
         /// Price of energy.
         pen: i64 => PRICE,
         /// Limit of 25.4, at or below which a unit lags.
@@ -137,6 +138,13 @@ impl Kind for Unit {
         run: &mut Run,
     ) -> Result<i128, Check> {
         interval::contribution(record, interval, run)
+    }
+
+    fn note_excluded(record: &HourRecord, run: &mut Run) {
+        for interval in record.used() {
+            let spared = PointKind::NowhereExcluded;
+            point::note_spared(record, interval, spared, &mut run.trace);
+        }
     }
 }
 

@@ -2,7 +2,8 @@
 
 use std::fmt;
 
-/// The checks, in the order in which they run.
+/// The checks, by their numbers. They run in this order, but POINT runs just
+/// before DERATE in each interval.
 #[derive(Clone, Copy, Debug, PartialEq, Eq, PartialOrd, Ord, Hash)]
 pub enum Check {
     /// A line is absent, extra, or not in the sheet's form.
@@ -23,6 +24,8 @@ pub enum Check {
     Room = 8,
     /// A day of another count than 24 cannot be stored in form 1.
     Back = 9,
+    /// The economic operating point is left to a curve without steps.
+    Point = 10,
 }
 
 impl Check {

@@ -9,6 +9,7 @@ use std::fmt;
 use crate::curve::CurveFault;
 use crate::line_event::{self, LineEvent};
 use crate::midnight::MidnightEvent;
+use crate::point::PointKind;
 use crate::refusal::{Check, Refusal};
 use crate::text::{Fault, Side, DAY_HOURS};
 
@@ -83,7 +84,9 @@ impl Spot {
     /// The kind of place that a refused hour names.
     pub fn in_hour(refusal: Refusal) -> Self {
         match (refusal.check, refusal.place) {
-            (Check::Derate | Check::Reach, interval) => Spot::Interval(Nth::of(interval)),
+            (Check::Point | Check::Derate | Check::Reach, interval) => {
+                Spot::Interval(Nth::of(interval))
+            }
             (_, 0) => Spot::WholeHour,
             (_, 1) => Spot::DayAheadLine,
             (_, 2) => Spot::DayAheadCurve,
@@ -249,6 +252,8 @@ pub enum Event {
     Lagging(Ordering),
     /// The actual energy was capped at the schedule and the overgeneration.
     Capped,
+    /// Where the economic operating point came from, or why there is none.
+    Point(PointKind),
     /// What the derate did.
     Derate(DerateKind),
     /// The rule that gave the limit.
@@ -318,9 +323,8 @@ impl Event {
                 spots.push((check, Spot::ImportIntervalLine(nth)));
             }
         }
-        for nth in Nth::ALL {
-            spots.push((Check::Derate, Spot::Interval(nth)));
-            spots.push((Check::Reach, Spot::Interval(nth)));
+        for check in [Check::Point, Check::Derate, Check::Reach] {
+            spots.extend(Nth::ALL.map(|nth| (check, Spot::Interval(nth))));
         }
         spots.extend(line_event::of_head());
         let refused = |(check, spot)| Event::Refused(check, spot);
@@ -343,6 +347,11 @@ impl Event {
         let counts = DAY_HOURS.low..=DAY_HOURS.high;
         let events = |hours| [Event::DayHours(hours), Event::ImportHours(hours)];
         counts.flat_map(events).collect()
+    }
+
+    /// Everything that an economic operating point can come from.
+    pub fn points() -> Vec<Event> {
+        PointKind::ALL.into_iter().map(Event::Point).collect()
     }
 
     /// Every rule for LL and UL.

@@ -4,6 +4,7 @@
 mod common;
 
 use common::line::*;
+use common::point::*;
 use common::*;
 use second::{archive, day, hour, import, line, Check, Header, Moved, Run, Way};
 use second::{down_text, up_text};
@@ -147,6 +148,7 @@ fn changed_hours() {
     let mut numbers = Numbers(10);
     for _ in 0..3000 {
         ask_all(&changed(WORKED.as_bytes(), &mut numbers));
+        ask_all(&changed(OPEN.as_bytes(), &mut numbers));
     }
 }
 

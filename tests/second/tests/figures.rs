@@ -32,7 +32,7 @@ fn p5_a_reduced_withdrawal() {
     let quarter = Interval {
         en: -20_000,
         ae: -20_000,
-        eop: -30_000,
+        eop: Some(-30_000),
         pen: 1000,
         lim: -20_001,
         ..still(900)
@@ -175,7 +175,7 @@ fn derated_hour(uol: i64) -> HourRecord {
     let quarter = Interval {
         en: 100_000,
         ae: 100_000,
-        eop: 100_000,
+        eop: Some(100_000),
         pen: 300,
         reg: 50_000,
         preg: 7,
@@ -207,7 +207,7 @@ fn reduced_by_20000(curve_end: i64) -> HourRecord {
     let quarter = Interval {
         en: 80_000,
         ae: 80_000,
-        eop: 80_000,
+        eop: Some(80_000),
         pen: 5000,
         ..still(900)
     };
@@ -231,7 +231,7 @@ fn a_lagging_interval_offsets_nothing() {
     let loss = Interval {
         en: 200,
         ae: 200,
-        eop: 200,
+        eop: Some(200),
         pen: 1000,
         lim: 199,
         mv: 5,
@@ -254,7 +254,7 @@ fn lagging_asks_the_raw_actual_energy() {
     record.intervals[0] = Interval {
         en: 80,
         ae: 95,
-        eop: 70,
+        eop: Some(70),
         lim: 90,
         ..record.intervals[0]
     };
@@ -316,7 +316,7 @@ fn upper_limits_by_hand() {
     let unit = |en, ae, eop, pen| Interval {
         en,
         ae,
-        eop,
+        eop: Some(eop),
         pen,
         co: 1000,
         lim: -2_000_000,
@@ -354,7 +354,7 @@ fn lower_limits_by_hand() {
     let unit = |en, ae, eop| Interval {
         en,
         ae,
-        eop,
+        eop: Some(eop),
         pen: 50,
         co: 1000,
         lim: -2_000_000,
@@ -446,7 +446,7 @@ fn a_derate_can_turn_an_injection_into_a_withdrawal() {
     let quarter = Interval {
         en: -90,
         ae: -90,
-        eop: -90,
+        eop: Some(-90),
         pen: 3,
         lim: -91,
         r1: 50,
@@ -467,7 +467,7 @@ fn reach_is_asked_where_the_minimum_would_give_0() {
     let quarter = Interval {
         en: 20,
         ae: 20,
-        eop: 20,
+        eop: Some(20),
         pen: -500,
         ..still(900)
     };

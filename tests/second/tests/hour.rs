@@ -205,14 +205,16 @@ fn a_minus_where_the_range_has_none_is_range() {
 }
 
 #[test]
-fn only_uol_can_be_missing() {
-    for key in ["s", "en", "ae", "co", "eop", "pen", "lim", "r1", "p1", "mv"] {
+fn only_uol_and_eop_can_be_missing() {
+    for key in ["s", "en", "ae", "co", "pen", "lim", "r1", "p1", "mv"] {
         refuses(&with_value(WORKED, 4, key, "-"), 1, 4);
     }
     // A derate to nothing is a derate: 100,000 kW cannot be taken off.
     refuses(&with_value(WORKED, 4, "uol", "0"), 6, 1);
     // With a limit above all schedules nothing is taken off.
     pays(&with_value(WORKED, 4, "uol", "100000"));
+    // At 5000 the curve gives 120,000, and the unit was at its schedule below.
+    pays(&with_value(WORKED, 4, "eop", "-"));
 }
 
 #[test]

@@ -21,7 +21,7 @@ fn hour_around_zero(numbers: &mut Numbers) -> HourRecord {
             en: numbers.between(-9, 9),
             ae: numbers.between(-9, 12),
             co: numbers.between(0, 3),
-            eop: numbers.between(-9, 9),
+            eop: Some(numbers.between(-9, 9)),
             pen: numbers.between(-9, 9),
             lim: numbers.between(-12, -5),
             uol: Some(numbers.between(0, 40)).filter(|uol| *uol < 25),

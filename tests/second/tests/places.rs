@@ -20,7 +20,7 @@ fn thirty() -> HourRecord {
     let run = Interval {
         en: 80,
         ae: 80,
-        eop: 80,
+        eop: Some(80),
         pen: 30,
         ..still(120)
     };
@@ -71,14 +71,22 @@ fn refused_hours(run: &mut Run) {
     block_refused(run, &curve, ask, Check::Curve, 3, Spot::RealTimeCurve);
     let seconds = with_value(&text, 33, "s", "119");
     block_refused(run, &seconds, ask, Check::Seconds, 0, Spot::WholeHour);
-    for (nth, i) in KINDS {
-        let derate = with_value(&text, 3 + i, "uol", "79");
-        block_refused(run, &derate, ask, Check::Derate, i, Spot::Interval(nth));
-        let rise = with_value(&with_value(&text, 3 + i, "en", "101"), 3 + i, "ae", "101");
-        block_refused(run, &rise, ask, Check::Reach, i, Spot::Interval(nth));
-    }
+    refused_intervals(run, &text, ask);
     let answer = hour::judge_record(&thirty(), ask, &mut [0; 29], run);
     assert_eq!(answer.cents(), None);
+}
+
+/// What an interval of the block is refused for, whichever it is.
+fn refused_intervals(run: &mut Run, text: &str, ask: Ask) {
+    let no_curve = with_line(text, 3, "rt=0 n=0");
+    for (nth, i) in KINDS {
+        let point = with_value(&no_curve, 3 + i, "eop", "-");
+        block_refused(run, &point, ask, Check::Point, i, Spot::Interval(nth));
+        let derate = with_value(text, 3 + i, "uol", "79");
+        block_refused(run, &derate, ask, Check::Derate, i, Spot::Interval(nth));
+        let rise = with_value(&with_value(text, 3 + i, "en", "101"), 3 + i, "ae", "101");
+        block_refused(run, &rise, ask, Check::Reach, i, Spot::Interval(nth));
+    }
 }
 
 fn judge_alone(sheet: &str, run: &mut Run) {

@@ -7,6 +7,7 @@ use std::io::{Read, Write};
 use std::process::{Command, Output, Stdio};
 
 use common::line::*;
+use common::point::*;
 use common::*;
 use second::{Header, LineHead};
 
@@ -56,6 +57,14 @@ fn writes(program: &str, input: &[u8], stdout: &[u8], stderr: &str) {
 fn hour_prints_the_worked_example() {
     prints(HOUR, WORKED, WORKED_ANSWER);
     prints(HOUR, &format!("{WORKED}\n{WORKED}"), WORKED_ANSWER);
+}
+
+#[test]
+fn hour_finds_the_point_on_the_curve() {
+    let quarters = (1..=4).map(|i| format!("i={i} grains=108000000\n"));
+    let answer = quarters.collect::<String>() + "hour=0 pay=120\n";
+    prints(HOUR, OPEN, &answer);
+    prints(HOUR, &open_on("rt=0 n=0"), "refused=10 at=1\n");
 }
 
 #[test]

@@ -108,7 +108,7 @@ fn an_excluded_hour_goes_through_checks_1_to_5() {
     let mut seconds = one_cent_hour(5);
     seconds.count = 3;
     assert_eq!(refused(&seconds, ask), (5, 0));
-    // DERATE and REACH are not asked.
+    // POINT, DERATE and REACH are not asked.
     let mut derate = one_cent_hour(5);
     derate.intervals[1].uol = Some(0);
     assert_eq!(refused(&derate, eligible()), (6, 2));
@@ -196,7 +196,7 @@ fn fields() -> Vec<Field> {
         (5, -E, E, |r, v| r.intervals[1].en = v),
         (5, -E, E, |r, v| r.intervals[1].ae = v),
         (5, 0, E, |r, v| r.intervals[1].co = v),
-        (5, -E, E, |r, v| r.intervals[1].eop = v),
+        (5, -E, E, |r, v| r.intervals[1].eop = Some(v)),
         (5, -P, P, |r, v| r.intervals[1].pen = v),
         (5, -E, E, |r, v| r.intervals[1].lim = v),
         (5, 0, E, |r, v| r.intervals[1].uol = Some(v)),

@@ -1,4 +1,4 @@
--- `settle` hands a refusal by checks 1 to 7 on; else what is paid out is the answer, and the row is left as it then is.
+-- `settle` hands a refusal by any check but ROOM on; else what is paid out is the answer, and the row is left as it then is.
 use mathlib.Core.Path.{sym, ap, _∙_}
 use native.Mathlib.Omega.{arith}
 use borrow.Author.Needs.{needs}

@@ -1,4 +1,4 @@
--- `work_out` finds the first fault of checks 1 to 7, and where there is none has the contributions and their sum.
+-- `work_out` finds the first fault of every check of an hour but ROOM, and where there is none has the contributions and their sum.
 use mathlib.Core.Path.{_≡_, ap, _∙_}
 use Prim.Native.Nat.{_≤_}
 use borrow.Author.Needs.{needs}

@@ -8,8 +8,8 @@ returns c =
     λ i.
     c .before .before .before .is-power .ensures i
     && c .before .before .is-power2 .ensures i
-    && c .before .is-power3 .ensures i
-    && c .is-power4 .ensures i
+    && c .before .eop-in-range .ensures i
+    && c .is-power3 .ensures i
 
 pub powers-in-range-spec : {M : Type 1} → statement M
 powers-in-range-spec = tie.close (tie.spec (λ c κs. tt) (λ c κs. tt) (λ c κs. tt) (λ c κs. tt) returns)

@@ -2,6 +2,7 @@
 #![allow(dead_code)]
 
 pub mod line;
+pub mod point;
 
 use second::import::{CountedImportLine, ImportHour, ImportHourLine, ImportInterval, ImportLine};
 use second::record::{Kind, Record};
@@ -38,6 +39,7 @@ pub const OTHER_COUNTS: [&str; 9] = [
 pub fn still(seconds: i64) -> Interval {
     Interval {
         s: seconds,
+        eop: Some(0),
         lim: -1,
         ..Interval::default()
     }
@@ -65,7 +67,7 @@ pub fn one_cent_hour(hour: i64) -> HourRecord {
     let run = Interval {
         en: 100,
         ae: 100,
-        eop: 100,
+        eop: Some(100),
         ..still(900)
     };
     let cut = Interval {

@@ -24,13 +24,13 @@ loop-holds c = (omega arith, form-says (partsOf (c .before .before .args .t1)) (
 
 task-of-requires : tie.Need-task-of-requires Inv-loop μ-loop
 task-of-requires c κs =
-    let k = c .before .before in
+    let k = c .before .before .before in
     let s = k .before .before .before .before in
     in-range (s .args .t1) (s .pre) (k .loop-test .taken)
 
 loop-again : tie.Need-loop-again Inv-loop μ-loop
 loop-again c =
-    let l = c .before .before .before .before .loop .inv in
+    let l = c .before .before .before .before .before .loop .inv in
     (omega arith, l .1, tasks-next (l .2) (omega arith) (c .task-of .ensures))
 
 returns-2 : tie.Need-returns-2 Inv-loop μ-loop

@@ -1,0 +1,2 @@
+-- Where an interval stands before its derate, in the code's words.
+pub mod Standing
