@@ -6,14 +6,11 @@ use mathlib.Core.List.{List}
 use Prim.Native.Nat.{ℕ, zero, suc, _<_}
 use native.Mathlib.Omega.{arith}
 use lib.IntN.{ℤ, pos}
-use lib.ListN.{length}
 use lib.Signed.{ltZ}
 use Rattle.exact.specs.Choice.{if_then_else_}
-use Rattle.exact.proofs.Apart.{impossible}
 use Rattle.exact.proofs.Parts.{arithℤ, by-test}
 use Rattle.tariff.specs.declared.Curve.{Curve}
 use Rattle.tariff.specs.declared.Hour.{Hour}
-use Rattle.tariff.specs.declared.Expected.{Expected}
 use Rattle.tariff.specs.declared.Expected.the-variants.{Any}
 use Rattle.tariff.specs.Sheet.{endOf, priceOf}
 use Rattle.tariff.specs.Curve.{known, none, quote}
@@ -21,7 +18,6 @@ use Rattle.tariff.specs.Point.{pointOn}
 use Rattle.tariff.specs.Reply.{paid}
 use Rattle.tariff.specs.Hour.{interval, reply}
 use Rattle.tariff.specs.Demand.{MustFind, MustPrice, priceIn, PointRefused, SamePoints, SamePrices, Lawful, Extends}
-use Rattle.tariff.specs.Total.{Pays}
 use Rattle.tariff.proofs.Demands.{paid-exactly-when-nothing-refuses, more-steps-extend}
 use Rattle.text.specs.Text.{bytes}
 use Rattle.blocks.specs.Block.{Block, blockOf, read}

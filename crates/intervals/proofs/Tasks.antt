@@ -38,8 +38,8 @@ use Rattle.tasks.specs.Task.{idleTask, iclTask}
 use Rattle.derate.specs.Five.{kwFive, kwAt}
 use Rattle.points.specs.declared.Standing.{Standing}
 use Rattle.points.specs.declared.Standing.the-variants.{Lags, Pointless, At}
-use Rattle.points.specs.Standing.{standingOf}
-use Rattle.points.proofs.Stands.{standingBy, standing-is}
+use Rattle.points.specs.Standing.{standingBy, standingOf}
+use Rattle.points.proofs.Stands.{standing-is}
 use Rattle.intervals.specs.Task.{readyTask, deratedTask, pointedTask, taskOf, lowOf, highOf, costUp, signedCost, energyPart, finished, ofCost, ofTask, Fitting}
 
 -- ---- the integral from D to the limit, from the cost of the stretch taken upward

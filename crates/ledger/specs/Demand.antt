@@ -43,12 +43,12 @@ pub record DaysOf (answer : BlockAnswer) (Apart : List ℕ → List ℕ → Type
 abbrev pub BothReadBy : {H : Type 0} → (List ℕ → Framed H) → (f g : Front) → (ℕ → H → H → Type 0) → Type 0
 BothReadBy {H} blockOf f g P = (k : ℕ) → k < f .hours → (h j : H) → blockOf (piece k (f .body)) ≡ read h → blockOf (piece k (g .body)) ≡ read j → P k h j
 
--- two hours that are one, or that no check from 1 to 4 refuses, that share the points that they must find, and whose prices agree on every
+-- two hours that are one, or that no check from 1 to 4 refuses, of whose operating points `Points` holds, and whose prices agree on every
 -- kilowatt that must be priced
-pub data PricedBy {H : Type 0} (Lawful : H → Type 0) (SamePoints : H → H → Type 0) (MustPrice : H → ℕ → ℤ → Type 0) (priceIn : H → ℕ → ℤ → Amount) (h g : H) : Type 0 where
-  one : h ≡ g → PricedBy Lawful SamePoints MustPrice priceIn h g
-  priced : Lawful h → Lawful g → SamePoints h g → ((i : ℕ) (k : ℤ) → MustPrice h i k → priceIn h i k ≡ priceIn g i k)
-      → PricedBy Lawful SamePoints MustPrice priceIn h g
+pub data PricedBy {H : Type 0} (Lawful : H → Type 0) (Points : H → H → Type 0) (MustPrice : H → ℕ → ℤ → Type 0) (priceIn : H → ℕ → ℤ → Amount) (h g : H) : Type 0 where
+  one : h ≡ g → PricedBy Lawful Points MustPrice priceIn h g
+  priced : Lawful h → Lawful g → Points h g → ((i : ℕ) (k : ℤ) → MustPrice h i k → priceIn h i k ≡ priceIn g i k)
+      → PricedBy Lawful Points MustPrice priceIn h g
 
 -- two hours that are one, or that no check from 1 to 4 refuses and whose curves are the same, cut into other steps
 pub data Recut (h g : Hour) (expected : Expected) : Type 0 where
@@ -66,9 +66,10 @@ DaysApart = DaysOf generatorAnswer CurvesApart
 abbrev pub BothRead : (f g : Front) → (ℕ → Hour → Hour → Type 0) → Type 0
 BothRead = BothReadBy blockOf
 
+-- they share the points that they must find
 abbrev pub PricedAlike : (h g : Hour) → (isExcluded : Bool) → Expected → Type 0
 PricedAlike h g isExcluded expected = PricedBy (λ x. Lawful x expected) (λ x y. SamePoints x y isExcluded) (λ x. MustPrice x isExcluded) priceIn h g
 
--- where the one gives its operating points
+-- the one gives its points
 abbrev pub PricedWhereGiven : (h g : Hour) → (isExcluded : Bool) → Expected → Type 0
 PricedWhereGiven h g isExcluded expected = PricedBy (λ x. Lawful x expected) (λ x y. PointsGiven x isExcluded) (λ x. MustPrice x isExcluded) priceIn h g

@@ -13,12 +13,11 @@ use Rattle.exact.proofs.Apart.{impossible}
 use Rattle.exact.proofs.Parts.{arithℤ, by-test}
 use Rattle.tariff.specs.declared.Kw.{Kw}
 use Rattle.tariff.specs.declared.Curve.{Curve}
-use Rattle.tariff.specs.declared.MaybeKw.the-variants.{Missing, At}
-use Rattle.tariff.specs.Units.{kw}
 use Rattle.tariff.specs.Sheet.{endOf, priceOf, beginOf}
+use Rattle.tariff.specs.Curve.{known, none}
 use Rattle.tariff.specs.Point.{firstDearer, pointOn}
 use Rattle.tariff.proofs.Points.{Taken, taken, without-steps, with-steps}
-use Rattle.points.specs.Standing.{toMaybe, pointFound}
+use Rattle.points.specs.Standing.{pointFound}
 
 module _ (prices : ℕ → ℤ) (pen : ℤ) where
   -- the first step that costs more than `pen` is one
@@ -112,21 +111,21 @@ begin-is c pen zero = refl
 begin-is c pen (suc j) = refl
 
 module _ (c : Curve) (pen : ℤ) where
-  pub found-none : c .n ≡ 0 → pointFound c pen ≡ Missing
+  pub found-none : c .n ≡ 0 → pointFound c pen ≡ none
   unfolding pointFound
   found-none e = rw (without-steps c pen e, e)
 
-  pub found-many : 12 < c .n → pointFound c pen ≡ Missing
+  pub found-many : 12 < c .n → pointFound c pen ≡ none
   unfolding pointFound
   found-many u = rw (lt-leb (c .n) 12 u)
 
-  pub found-known : c .n ≤ 12 → pointFound c pen ≡ toMaybe (pointOn c pen)
+  pub found-known : c .n ≤ 12 → pointFound c pen ≡ pointOn c pen
   unfolding pointFound
   found-known u = rw (le-leb (c .n) 12 u)
 
   pub found-climbed : (isAll : Bool) (point : Kw) → 0 < c .n → c .n ≤ 12 → Climbed (priceOf c) pen (c .start .0) (endOf c) (c .n) isAll (point .0)
-      → At point ≡ pointFound c pen
+      → pointFound c pen ≡ known (point .0)
   found-climbed isAll point u v w =
       let e : point .0 ≡ beginOf c (firstDearer (priceOf c) pen 0 (c .n)) =
       climbed-all (priceOf c) pen (c .start .0) (endOf c) (c .n) isAll (point .0) w ∙ begin-is c pen (firstDearer (priceOf c) pen 0 (c .n)) in
-      ap (λ (z : ℤ). At (kw z)) e ∙ sym (found-known v ∙ ap toMaybe (with-steps c pen u))
+      found-known v ∙ with-steps c pen u ∙ ap known (sym e)

@@ -9,27 +9,23 @@ use Rattle.tariff.specs.declared.MaybeKw.the-variants as maybe
 use Rattle.tariff.specs.Units.{kw}
 use Rattle.tariff.specs.Curve.{Amount, known, none}
 use Rattle.tariff.specs.Eligible.{lags}
-use Rattle.tariff.specs.Point.{pointOn}
+use Rattle.tariff.specs.Point.{pointOn, pointBy}
 use Rattle.points.specs.declared.Standing.{Standing}
 use Rattle.points.specs.declared.Standing.the-variants.{Lags, Pointless, At}
 
+-- the point that a curve has; one with more steps than a block can have is asked for none, since its hour is refused for FORM
+unfoldable pub pointFound : Curve → (pen : ℤ) → Amount
+pointFound c pen = if leb (c .n) 12 then pointOn c pen else none
+
+-- a point as the code holds it
 abbrev pub toMaybe : Amount → MaybeKw
-toMaybe (known z) = maybe.At (kw z)
+toMaybe (known E) = maybe.At (kw E)
 toMaybe none = maybe.Missing
 
--- the point that a curve has; one with more steps than a block can have is asked for none, since its hour is refused for FORM
-unfoldable pub pointFound : Curve → (pen : ℤ) → MaybeKw
-pointFound c pen = if leb (c .n) 12 then toMaybe (pointOn c pen) else maybe.Missing
-
 -- where an interval stands that does not lag
-abbrev pub standingAt : MaybeKw → Standing
-standingAt (maybe.At k) = At k
-standingAt maybe.Missing = Pointless
-
--- what the sheet gives comes before what the curve has
-abbrev pub orFound : MaybeKw → MaybeKw → MaybeKw
-orFound (maybe.At k) found = maybe.At k
-orFound maybe.Missing found = found
+abbrev pub standingBy : Amount → Standing
+standingBy (known E) = At (kw E)
+standingBy none = Pointless
 
 unfoldable pub standingOf : (rt : Curve) → Interval → Standing
-standingOf rt v = if lags v then Lags else standingAt (orFound (v .eop) (pointFound rt (v .pen .0)))
+standingOf rt v = if lags v then Lags else standingBy (pointBy (v .eop) (pointFound rt (v .pen .0)))

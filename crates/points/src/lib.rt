@@ -4,8 +4,9 @@ ghost use mathlib.Core.Path.{_≡_};
 ghost use mathlib.Core.Bool.{_&&_};
 ghost use lib.Signed.{leZ};
 ghost use Rattle.exact.specs.Choice.{if_then_else_};
+ghost use Rattle.tariff.specs.Point.{pointBy};
 ghost use Rattle.points.specs.declared.Standing.the-variants.{Lags, Pointless, At};
-ghost use Rattle.points.specs.Standing.{pointFound, orFound, standingOf};
+ghost use Rattle.points.specs.Standing.{pointFound, toMaybe, standingOf};
 use tariff::Curve;
 use tariff::Interval;
 use tariff::Kw;
@@ -37,7 +38,7 @@ fn moved_on(taken: bool, end: Kw, point: Kw) -> Kw
 // The operating point that a real-time curve has at the price `pen`: the end of the last step that is taken, and the curve's start where none is.
 // A count above 12 is FORM's to refuse: such a curve has no point here.
 fn point_on(c: Curve, pen: Price) -> MaybeKw
-    ensures { λ r. ⌜ r ≡ pointFound c (pen .0) ⌝ }
+    ensures { λ r. ⌜ r ≡ toMaybe (pointFound c (pen .0)) ⌝ }
 {
     if c.n == 0 {
         return MaybeKw::Missing;
@@ -61,7 +62,7 @@ fn point_on(c: Curve, pen: Price) -> MaybeKw
 
 // E: the operating point that the sheet gives, or the one that the real-time curve has.
 fn point_of(rt: Curve, v: Interval) -> MaybeKw
-    ensures { λ r. ⌜ r ≡ orFound (v .eop) (pointFound rt (v .pen .0)) ⌝ }
+    ensures { λ r. ⌜ r ≡ toMaybe (pointBy (v .eop) (pointFound rt (v .pen .0))) ⌝ }
 {
     let eop = v.eop;
     if let MaybeKw::At(given) = eop {

@@ -4,7 +4,6 @@ use mathlib.Core.Bool.{Bool}
 use mathlib.Core.Logic.{_↔_, _⊎_, inl, inr, ⊎-elim}
 use Prim.Native.Nat.{ℕ, _<_}
 use native.Mathlib.Omega.{arith}
-use Rattle.exact.proofs.Apart.{impossible}
 use Rattle.tariff.specs.declared.Hour.{Hour}
 use Rattle.tariff.specs.Reply.{DERATE, REACH, POINT}
 use Rattle.tariff.specs.Hour.{outcomeAt}

@@ -57,11 +57,11 @@ module _ (outcome : ℕ → Outcome) (n : ℕ) where
     pub here : outcome at ≡ stops number
     pub noOther : (j : ℕ) → j < at → (other : ℕ) → outcome j ≡ stops other → other ≡ number
 
-  abbrev pub first-is-some : (number i : ℕ) → FirstStopped number i → StoppedFor number
+  abbrev first-is-some : (number i : ℕ) → FirstStopped number i → StoppedFor number
   first-is-some number i f = record { at = i; counted = f .counted; here = f .here; noOther = λ j u other q. absurd (f .first j u other q) }
 
   -- nor is any at it
-  pub at-or-before : (number : ℕ) (w : StoppedFor number) (j : ℕ) → j ≤ w .at → (other : ℕ) → outcome j ≡ stops other → other ≡ number
+  at-or-before : (number : ℕ) (w : StoppedFor number) (j : ℕ) → j ≤ w .at → (other : ℕ) → outcome j ≡ stops other → other ≡ number
   at-or-before number w j u other e = go (decLt j (w .at))
     where
       go : Dec (j < w .at) → other ≡ number

@@ -1,7 +1,6 @@
 -- Operating points, computed: the curves of samples/hour/point.txt, which docs/answers.md works by hand, and the edges of the request's words.
 use mathlib.Core.Path.{_≡_, refl}
-use mathlib.Core.List.{List, [], _∷_, _++_}
-use Prim.Native.Nat.{ℕ}
+use mathlib.Core.List.{_∷_}
 use lib.IntN.{ℤ, pos, negℤ}
 use lib.ListN.{replicate}
 use Rattle.tariff.specs.declared.Curve.{Curve}

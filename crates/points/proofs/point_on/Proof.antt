@@ -1,11 +1,12 @@
 -- `point_on` has no point where the curve has no step, or more than a block can have; else it goes over the steps. The loop's invariant: the point
 -- is that of the first `j` steps, and `taken` tells whether all of them are.
-use mathlib.Core.Path.{_≡_, sym}
+use mathlib.Core.Path.{_≡_, sym, ap}
 use Prim.Native.Nat.{_-_, _≤_}
 use native.Mathlib.Omega.{arith}
 use lib.IntN.{pos}
 use lib.ListN.{getD}
 use Rattle.tariff.specs.Units.{kw, price}
+use Rattle.points.specs.Standing.{toMaybe}
 use Rattle.points.proofs.Climbs.{Climbed, none-yet, climbs, found-none, found-many, found-climbed}
 use Rattle.points.proofs.point_on.Statement.{statement}
 use Rattle.points.proofs.point_on.Tie as tie
@@ -18,10 +19,10 @@ abbrev μ-loop : tie.MeasureT-loop
 μ-loop pen n to at point₀ taken₀ j₀ point taken j = n - j
 
 returns : tie.Need-returns Inv-loop μ-loop
-returns c = sym (found-none _ _ (c .if1 .taken))
+returns c = ap toMaybe (sym (found-none _ _ (c .if1 .taken)))
 
 returns-2 : tie.Need-returns-2 Inv-loop μ-loop
-returns-2 c = sym (found-many _ _ (c .if2 .taken))
+returns-2 c = ap toMaybe (sym (found-many _ _ (c .if2 .taken)))
 
 loop-holds : tie.Need-loop-holds Inv-loop μ-loop
 loop-holds c = (omega arith, none-yet _ _ _ _)
@@ -41,7 +42,7 @@ returns-3 c =
     let some = few .before .before in
     let n = some .before .before .args .c .n in
     let end : l .j ≡ n = let u = l .inv .0 in omega arith in
-    found-climbed _ _ (l .taken) (l .point) (let u = some .if1 .left in omega arith) (few .if2 .left) (rw end at (l .inv .1))
+    ap toMaybe (sym (found-climbed _ _ (l .taken) (l .point) (let u = some .if1 .left in omega arith) (few .if2 .left) (rw end at (l .inv .1))))
 
 pub point-on-spec : {M : Type 1} → statement M
 point-on-spec =
