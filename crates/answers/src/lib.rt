@@ -1,4 +1,6 @@
 // The lines of each kind of answer, from a place of a lent page on. A key is a fixed byte string, as document 01 prints it.
+#![tactic(auto)]
+
 ghost use Rattle.std.specs.Prelude.{◌++◌, take};
 ghost use Rattle.tariff.specs.Reply.{told, shown, number_of, place_of};
 ghost use Rattle.tariff.specs.Import.{import_fault_told, import_told, refused, outside, in_hour};
@@ -19,7 +21,7 @@ fn put_place(page: &mut [u8], at: usize, place: usize) -> usize
 }
 
 // What ends the line of a refused header: nothing, or which of several headers it is.
-#[derive(Drop)]
+#[derive(Clone, Copy)]
 pub enum Ending {
     Plain,
     Header(usize),

@@ -16,7 +16,7 @@ use Rattle.header.specs.Header.{hours_of, header_fault, unit_of, marks_by, marks
 use Rattle.header.proofs.HeaderLines.{start_of}
 use Rattle.header.proofs.HeaderEnds.{clear_next}
 use Rattle.header.proofs.Forms.{lines_before, unit_behind}
-use Rattle.header.proofs.HeaderBeside.{Beside, form_beside, range_beside, unit_beside_lem, marks_beside, behind_beside}
+use Rattle.header.proofs.HeaderBeside.{Beside, form_beside, range_beside, unit_beside, marks_beside, behind_beside}
 use Rattle.archive.specs.declared.Way.{Way}
 use Rattle.archive.specs.Move.{back, first_lines}
 use Rattle.archive.proofs.FirstLines.{is_two, sheet, layout, hours_are, layout_is, unit_begins, first_in_range_lem}
@@ -82,7 +82,7 @@ module _ (way : Way) (rest : List ℕ) (e : header_fault (first_lines way ++ res
   pub moved_unit : unit_of s ≡ unit_of t
   moved_unit =
       (λ i. number_on (layout_is way rest i) (hours_are way rest i) UNIT_LINE s)
-      ∙ unit_beside_lem beside checks.0
+      ∙ unit_beside beside checks.0
       ∙ (λ i. number_on (sym (layout_is (back way) rest) i) (sym (hours_are (back way) rest) i) UNIT_LINE t)
 
   pub moved_marks : marks_of s ≡ marks_of t

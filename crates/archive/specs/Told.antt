@@ -1,6 +1,5 @@
 -- What refuses a sheet, by what is read of its header: the header's fault or none, its form, and the count of its day's hours.
-use Rattle.std.specs.Prelude.{Bool, false, ℕ, eqb}
-use Rattle.exact.specs.Choice.{if◌then◌else◌}
+use Rattle.std.specs.Prelude.{if◌then◌else◌, Bool, false, ℕ, eqb}
 use Rattle.tariff.specs.Reply.{FORM, RANGE, BACK, Verdict, clear, fault, unless, ◌then◌}
 use Rattle.archive.specs.declared.Way.{Way}
 use Rattle.archive.specs.Move.{goes, fits}

@@ -1,5 +1,7 @@
 // The archive, up and back: a stored sheet of form 1 becomes one of form 2, and back. Only the lines in front of `unit` are rewritten; the
 // blocks are not looked at.
+#![tactic(auto)]
+
 ghost use Rattle.std.specs.Prelude.{◌≡◌, drop};
 ghost use Rattle.io.specs.Counts.{IsPrefixLen};
 ghost use Rattle.tariff.specs.Reply.{shown};
@@ -10,14 +12,14 @@ ghost use Rattle.archive.specs.Told.{is_form, fault_by};
 use tariff::{Check, Found};
 
 // Up from form 1 to form 2, or back down.
-#[derive(Drop)]
+#[derive(Clone, Copy)]
 pub enum Way {
     Up,
     Down,
 }
 
 // What refuses a sheet, or nothing where it moves; `n` bytes were written.
-#[derive(Drop)]
+#[derive(Clone, Copy)]
 pub struct Moved {
     pub found: Found,
     pub n: usize,

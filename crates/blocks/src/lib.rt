@@ -1,4 +1,6 @@
 // The bytes of an hour block into its record, line by line as document 01 prints them.
+#![tactic(auto)]
+
 ghost use Rattle.std.specs.Prelude.{◌≡◌};
 ghost use Rattle.blocks.specs.Block.{block_of, hour_read_of};
 
@@ -9,7 +11,7 @@ mod reader;
 mod series;
 
 // A block: `broken` is the first line that is not as printed, or 0 where `hour` is its record.
-#[derive(Drop)]
+#[derive(Clone, Copy)]
 pub struct BlockRead {
     pub broken: usize,
     pub hour: Hour,

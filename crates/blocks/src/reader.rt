@@ -5,7 +5,7 @@ ghost use Rattle.blocks.specs.Block.{block_at, hour_read_of};
 
 use crate::{BlockRead, block};
 
-#[derive(Drop)]
+#[derive(Clone, Copy)]
 pub struct Reader<'a> {
     pub block: &'a [u8],
     pub place: usize,

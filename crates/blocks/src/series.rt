@@ -5,7 +5,7 @@ use tariff::Interval;
 use text::Next;
 
 // The interval lines of a block: `broken` is the first line that is not as printed, or 0.
-#[derive(Drop)]
+#[derive(Clone, Copy)]
 pub struct SeriesRead {
     pub broken: usize,
     pub n: usize,

@@ -1,5 +1,7 @@
 // Checks 1 to 5 of an hour's record, in their order: form, range, order, curve, seconds; of a generator's, and of an internal controllable
 // line's. Of an import's block all but curve.
+#![tactic(auto)]
+
 ghost use Rattle.std.specs.Prelude.{◌≡◌};
 ghost use Rattle.tariff.specs.Reply.{shown};
 ghost use Rattle.tariff.specs.Hour.{block_fault};

@@ -1,7 +1,6 @@
 -- A reply as numbers that a caller in another language can hold.
-use Rattle.std.specs.Prelude.{Bool, List, ℕ, ℤ, pos, length}
+use Rattle.std.specs.Prelude.{if◌then◌else◌, Bool, List, ℕ, ℤ, pos, length}
 use Rattle.std.specs.Int.Signed.{lt_z}
-use Rattle.exact.specs.Choice.{if◌then◌else◌}
 use Rattle.tariff.specs.declared.Expected.{Expected}
 use Rattle.tariff.specs.declared.Expected.TheVariants.{Any, Says}
 use Rattle.tariff.specs.Reply.{Reply, paid, refused}

@@ -1,5 +1,7 @@
 // The block call for callers in C or Rust, where a slice passes as a pointer and a length: of a generator's block, and of an internal
 // controllable line's.
+#![tactic(auto)]
+
 ghost use Rattle.std.specs.Prelude.{◌≡◌};
 ghost use Rattle.tariff.specs.Reply.{told};
 ghost use Rattle.blocks.specs.Block.{block_of};
@@ -46,8 +48,7 @@ fn held(answer: Answer, place: &mut u64, grains: &mut i64, cents: &mut i64) -> u
 
 // Settles the hour block that begins at the first byte, in a day of so many hours where an hour is expected: 0 where it is paid, with `grains`, `cents` and the front of `row` written,
 // else the number of the check that refuses, with `place` written. What is not written is as it was.
-#[unsafe(no_mangle)]
-pub extern "C" fn culvertjig_block(
+pub fn culvertjig_block(
     block: &[u8],
     excluded: bool,
     expected: i64,
@@ -68,8 +69,7 @@ pub extern "C" fn culvertjig_block(
 }
 
 // Settles an hour block of an internal controllable line in the same way.
-#[unsafe(no_mangle)]
-pub extern "C" fn culvertjig_line_block(
+pub fn culvertjig_line_block(
     block: &[u8],
     excluded: bool,
     expected: i64,

@@ -10,7 +10,7 @@ use lib.Signed.{lt_z, le_z, non_neg}
 use mir.Syntax.{w64}
 use mir.Val.{Fits, SFits}
 use mir.Facts.{to_z-of_z}
-use Rattle.exact.specs.Choice.{if◌then◌else◌}
+use Rattle.std.specs.Prelude.{if◌then◌else◌}
 use Rattle.exact.specs.Whole.{over}
 use Rattle.exact.proofs.Bits.{held, lt_is}
 use Rattle.exact.proofs.Parts.{arithℤ, apart, by_test}

@@ -1,6 +1,5 @@
 -- A curve line: start, n, and n pairs. Another n than 0 to 12 is not as printed.
-use Rattle.std.specs.Prelude.{Bool, List, ℕ, ℤ, pos, replicate}
-use Rattle.exact.specs.Choice.{if◌then◌else◌}
+use Rattle.std.specs.Prelude.{if◌then◌else◌, Bool, List, ℕ, ℤ, pos, replicate}
 use Rattle.exact.specs.Whole.{over}
 use Rattle.tariff.specs.declared.Kw.{Kw}
 use Rattle.tariff.specs.declared.Price.{Price}

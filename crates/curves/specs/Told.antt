@@ -1,6 +1,5 @@
 -- What the code has read of a curve line: the words of contracts inside the crate.
-use Rattle.std.specs.Prelude.{◌≡◌, List, ℕ, ℤ, pos}
-use Rattle.exact.specs.Choice.{if◌then◌else◌}
+use Rattle.std.specs.Prelude.{if◌then◌else◌, ◌≡◌, List, ℕ, ℤ, pos}
 use Rattle.exact.specs.Whole.{over}
 use Rattle.tariff.specs.Units.{kw, price}
 use Rattle.tariff.specs.Sheet.{lies_in}

@@ -1,4 +1,6 @@
 // A curve line of an hour block into its curve, whatever the block is of. Any text and any place are taken.
+#![tactic(auto)]
+
 ghost use Rattle.std.specs.Prelude.{◌≡◌};
 ghost use Rattle.curves.specs.CurveLine.{curve_read_at};
 
@@ -8,7 +10,7 @@ use text::Next;
 mod line;
 
 // The place behind a curve line, and its curve; no steps go with a line that is not as printed.
-#[derive(Drop)]
+#[derive(Clone, Copy)]
 pub struct CurveRead {
     pub next: Next,
     pub curve: Curve,

@@ -9,7 +9,7 @@ use tariff::{Curve, Kw, Price};
 use text::Next;
 
 // The pairs of a curve line, and the place after them.
-#[derive(Drop)]
+#[derive(Clone, Copy)]
 pub struct Pairs {
     pub next: Next,
     pub to: [Kw; 12],

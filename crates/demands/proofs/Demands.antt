@@ -11,7 +11,8 @@ use native.Mathlib.Omega.{arith}
 use lib.IntN.{ℤ, pos}
 use lib.ListN.{length, take, get_or}
 use Rattle.exact.specs.Whole.{sum_to}
-use Rattle.figures.specs.Table.{Holds, figures, figures_hold}
+use Rattle.figures.specs.Table.{Holds, figures}
+use Rattle.figures.proofs.Table.{figures_hold}
 use Rattle.tariff.specs.declared.Hour.{Hour}
 use Rattle.tariff.specs.declared.Expected.{Expected}
 use Rattle.tariff.specs.declared.Expected.TheVariants.{Any, Says}
@@ -86,7 +87,7 @@ use Rattle.demands.proofs.Listing.{listing_printed, short_printed}
 pub the_block_call_answers : {M : Type 1} → block.statement M
 the_block_call_answers = block_is.met
 
--- `culvertjig_block`, which programs in C and Rust link.
+-- `culvertjig_block`, which the export of that name makes: programs in C and Rust link that, and the page of the exports (crates/culvertjig_c) says the same of it.
 pub the_library_call_answers : {M : Type 1} → library.statement M
 the_library_call_answers = library_is.met
 

@@ -65,7 +65,7 @@ use Rattle.demands.proofs.Printed.{kept_page, append_page, line_days_printed_ali
 pub the_line_block_call_answers : {M : Type 1} → block.statement M
 the_line_block_call_answers = block_is.met
 
--- `culvertjig_line_block`, which programs in C and Rust link.
+-- `culvertjig_line_block`, which the export of that name makes, as the page of the exports (crates/culvertjig_c) says.
 pub the_library_line_call_answers : {M : Type 1} → library.statement M
 the_library_line_call_answers = library_is.met
 

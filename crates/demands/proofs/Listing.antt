@@ -7,7 +7,8 @@ use native.Mathlib.Omega.{arith}
 use lib.IntN.{pos, negsuc}
 use Rattle.exact.specs.Whole.{up_to}
 use Rattle.figures.specs.Sample.{two_steps, worked}
-use Rattle.figures.specs.Worked.{worked_gives, worked_paid}
+use Rattle.figures.proofs.Worked.{worked_gives}
+use Rattle.figures.proofs.Paid.{worked_paid}
 use Rattle.tariff.specs.declared.Hour.{Hour}
 use Rattle.tariff.specs.declared.Expected.TheVariants.{Any}
 use Rattle.tariff.specs.Reply.{Reply, refused, REACH}

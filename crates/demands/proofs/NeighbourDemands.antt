@@ -1,5 +1,5 @@
--- The promises of request 5, "the two hours don't stop at midnight", of what `day` settles and prints, on one page. An input is s; its headers are s, restAfter 1 s and
--- restAfter 2 s, each up to its empty line. They rest on ledger's MidnightDemands, that of a moved neighbour on archived's ArchiveDemands; NeighbourWitness has inputs that some of them speak of.
+-- The promises of request 5, "the two hours don't stop at midnight", of what `day` settles and prints, on one page. An input is s; its headers are s, rest_after 1 s and
+-- rest_after 2 s, each up to its empty line. They rest on ledger's MidnightDemands, that of a moved neighbour on archived's ArchiveDemands; NeighbourWitness has inputs that some of them speak of.
 use mathlib.Core.Path.{◌≡◌}
 use mathlib.Core.Bool.{true, false}
 use mathlib.Core.List.{List}

@@ -8,7 +8,7 @@ use native.Mathlib.Omega.{arith}
 use lib.Dec.{eqb}
 use lib.ListN.{length, set}
 use borrow.Author.Tests.{eqb-true}
-use Rattle.exact.specs.Choice.{if◌then◌else◌}
+use Rattle.std.specs.Prelude.{if◌then◌else◌}
 use Rattle.exact.proofs.Parts.{by_test}
 use Rattle.tariff.specs.Derate.{of_five, floor_of, remainder, left_over, one, share}
 use Rattle.tariff.specs.Rounds.{is_largest, served_in}

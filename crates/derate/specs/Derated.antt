@@ -1,6 +1,5 @@
 -- What the derate of any figures answers: those that no day sheet can have are answered as a reduction that has no room.
-use Rattle.std.specs.Prelude.{Bool, true, not, ◌&&◌, ◌||◌, ℕ, ℤ}
-use Rattle.exact.specs.Choice.{if◌then◌else◌}
+use Rattle.std.specs.Prelude.{if◌then◌else◌, Bool, true, not, ◌&&◌, ◌||◌, ℕ, ℤ}
 use Rattle.tariff.specs.declared.MaybeKw.{MaybeKw}
 use Rattle.tariff.specs.declared.MaybeKw.TheVariants.{Missing, At}
 use Rattle.tariff.specs.declared.DayAhead.{DayAhead}

@@ -1,6 +1,5 @@
 -- Arrays of five: schedules, and the kilowatts of a reduction.
-use Rattle.std.specs.Prelude.{Bool, false, List, [], ◌∷◌, ℕ, ◌*◌, ◌/◌, ◌%◌, ◌<◌, ◌≤◌, eqb, get_or, ℤ, pos}
-use Rattle.exact.specs.Choice.{if◌then◌else◌}
+use Rattle.std.specs.Prelude.{if◌then◌else◌, Bool, false, List, [], ◌∷◌, ℕ, ◌*◌, ◌/◌, ◌%◌, ◌<◌, ◌≤◌, eqb, get_or, ℤ, pos}
 use Rattle.exact.specs.Whole.{Within}
 use Rattle.tariff.specs.declared.Kw.{Kw}
 use Rattle.tariff.specs.Units.{kw}

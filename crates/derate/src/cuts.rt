@@ -6,7 +6,7 @@ ghost use Rattle.derate.specs.Five.{floor_by, remainder_by};
 use tariff::Kw;
 
 // Kilowatts of a reduction, or what its sharing leaves over in parts of the room: never negative.
-#[derive(Drop)]
+#[derive(Clone, Copy)]
 pub struct Cut(pub u64);
 
 // Five schedules and no more are summed.

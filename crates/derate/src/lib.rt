@@ -1,4 +1,6 @@
 // The derate of an interval (25.5), for any figures: the schedules that every later rule reads, or a reduction that has no room.
+#![tactic(auto)]
+
 ghost use Rattle.std.specs.Prelude.{◌≡◌, ◌&&◌};
 ghost use Rattle.tariff.specs.Sheet.{is_power};
 ghost use Rattle.tariff.specs.Derate.{day_ahead, real_time};
@@ -12,7 +14,7 @@ mod five;
 
 // The five schedules of an interval after its derate; `exceeds` where the reduction has no room, or a figure is out of range, and they are then
 // as day ahead.
-#[derive(Drop)]
+#[derive(Clone, Copy)]
 pub struct Derated {
     pub exceeds: bool,
     pub schedules: [Kw; 5],

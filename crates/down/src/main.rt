@@ -1,25 +1,40 @@
 // `down`: moves a stored sheet from standard input down from form 2 to form 1. It writes the moved sheet and nothing else to standard output; a refusal goes to
 // standard error, and then standard output stays empty. Given any argument, such as a sheet's name, it moves nothing and says on standard error how
 // it is used.
-use archive::Way;
-use libc::STDERR_FILENO;
+#![tactic(auto)]
 
-fn say(line: &[u8]) {
-    io::write_all(STDERR_FILENO, line);
+use archive::Way;
+use std::env::{Env, FillError};
+use std::io::Stderr;
+
+// Whether an argument stands behind the program's own name.
+fn has_argument(rt: &HostRuntime) -> bool {
+    !matches!(rt.arg(1, &mut []), Err(FillError::NotPresent))
 }
 
-fn say_usage() {
+fn say(stderr: Stderr, line: &[u8]) {
+    let _ = stderr.write_all(line);
+}
+
+fn say_usage(stderr: Stderr) {
     say(
+        stderr,
         b"down takes no argument. It reads a stored sheet on standard input: down < SHEET > MOVED\n",
     );
-    say(b"It writes the sheet in form 1, or refused=R at=L on standard error.\n");
-    say(b"Read on: docs/sheet.md for the sheet, docs/answers.md for a refusal.\n");
+    say(
+        stderr,
+        b"It writes the sheet in form 1, or refused=R at=L on standard error.\n",
+    );
+    say(
+        stderr,
+        b"Read on: docs/sheet.md for the sheet, docs/answers.md for a refusal.\n",
+    );
 }
 
-fn main() {
-    if 1 < os::arg_count() {
-        say_usage();
+fn main(rt: HostRuntime) {
+    if has_argument(&rt) {
+        say_usage(rt.stderr());
         return;
     }
-    passing::pass_sheet(Way::Down);
+    passing::pass_sheet(&rt, Way::Down);
 }

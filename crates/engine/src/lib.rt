@@ -1,5 +1,7 @@
 // The hour call: a record of an hour in, an answer out, a lent row written or left alone. Of a generator's hour, and of an internal
 // controllable line's.
+#![tactic(auto)]
+
 ghost use Rattle.std.specs.Prelude.{◌≡◌, length};
 ghost use Rattle.tariff.specs.Reply.{told};
 ghost use Rattle.tariff.specs.Hour.{reply, row_after};

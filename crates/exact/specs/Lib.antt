@@ -1,3 +1,2 @@
--- A choice by a test, and whole numbers with a sign.
-pub mod Choice
+-- Whole numbers with a sign.
 pub mod Whole

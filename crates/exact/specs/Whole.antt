@@ -1,7 +1,6 @@
 -- Whole numbers with a sign: their parts above and below zero, the lesser and the greater, tests, ranges, distances, sums.
-use Rattle.std.specs.Prelude.{Bool, false, List, [], ◌∷◌, ◌++◌, ℕ, zero, suc, ◌≤◌, eqb, ℤ, pos, negsuc, ◌+ℤ◌, ◌-ℤ◌}
+use Rattle.std.specs.Prelude.{if◌then◌else◌, Bool, false, List, [], ◌∷◌, ◌++◌, ℕ, zero, suc, ◌≤◌, eqb, ℤ, pos, negsuc, ◌+ℤ◌, ◌-ℤ◌}
 use Rattle.std.specs.Int.Signed.{lt_z}
-use Rattle.exact.specs.Choice.{if◌then◌else◌}
 
 -- z is `over z` less `under z`, and one of the two is 0: `over z` is the greater of z and 0
 abbrev pub over : ℤ → ℕ

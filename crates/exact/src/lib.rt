@@ -1,1 +1,3 @@
+#![tactic(auto)]
+
 // Laws of whole numbers with a sign, which the contracts and proofs of the other crates cite. It has no function.

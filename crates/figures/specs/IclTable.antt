@@ -67,8 +67,8 @@ whole h is_excluded = replied (icl_reply h is_excluded Any 30)
 
 -- ---- the table: the figure's number, what the definitions compute, and what comes out by hand
 
-infix 1 L◌is◌by-hand◌
-abbrev L◌is◌by-hand◌ : ℕ → List ℤ → List ℤ → Row
+infix 1 L◌is◌by_hand◌
+abbrev L◌is◌by_hand◌ : ℕ → List ℤ → List ℤ → Row
 L figure is computed by_hand worked = record { figure = figure; computed = computed; printed = worked }
 
 abbrev pub icl_figures : List Row

@@ -1,25 +1,20 @@
 -- Document 01's "Figures to prove" in one table, P8 as document 02's No. 6 amends it: what the definitions compute beside what the papers
--- print, and the claim that the two agree.
-use Rattle.std.specs.Prelude.{◌≡◌, refl, false, List, [], ◌∷◌, ◌++◌, ℕ, replicate, ℤ, pos, neg_ℤ}
-use Rattle.std.proofs.Common.{ap}
-use Rattle.exact.specs.Whole.{span, min_z, max_z, up_to, sum_to}
+-- print. That the two agree is claimed and proved in proofs/.
+use Rattle.std.specs.Prelude.{◌≡◌, false, List, [], ◌∷◌, ◌++◌, ℕ, replicate, ℤ, pos, neg_ℤ}
+use Rattle.exact.specs.Whole.{up_to}
 use Rattle.tariff.specs.declared.DayAhead.{DayAhead}
 use Rattle.tariff.specs.declared.Hour.{Hour}
 use Rattle.tariff.specs.declared.MaybeKw.{MaybeKw}
 use Rattle.tariff.specs.declared.MaybeKw.TheVariants.{Missing, At}
 use Rattle.tariff.specs.declared.Expected.TheVariants.{Any}
 use Rattle.tariff.specs.Units.{cents_of}
-use Rattle.tariff.specs.Sheet.{all_to, ahead_in_range, curve_in_range, interval_in_range, curve_keeps}
-use Rattle.tariff.specs.Curve.{quote_from, quote, sum_up, integral}
-use Rattle.tariff.specs.Reply.{Reply, paid, refused, first_of}
-use Rattle.tariff.specs.Eligible.{some_to, excluded, no_day}
-use Rattle.tariff.specs.Derate.{red_tot, pot_red, floor_of, remainder, left_over, one, share, exceeds_room, reduced}
-use Rattle.tariff.specs.Contributions.{lower_limit, upper_limit, energy_by, reserve, regulation, movement, other_than_energy}
-use Rattle.tariff.specs.Checks.{form_in, range_in, order_in, curves_in, seconds_in}
-use Rattle.tariff.specs.Hour.{interval, outcome, outcome_at, reply}
-use Rattle.tariff.specs.Outcome.{Outcome, gives, stops, first_stop, reply_by}
+use Rattle.tariff.specs.Reply.{Reply, paid, refused}
+use Rattle.tariff.specs.Eligible.{excluded, no_day}
+use Rattle.tariff.specs.Derate.{red_tot, pot_red, one, share}
+use Rattle.tariff.specs.Contributions.{reserve}
+use Rattle.tariff.specs.Hour.{interval, outcome, reply}
+use Rattle.tariff.specs.Outcome.{Outcome, gives, stops}
 use Rattle.figures.specs.Sample.{worked, withdrawing, moving, derating, over_derated, marked, short_curve}
-use Rattle.figures.specs.Worked.{worked_gives, worked_paid}
 
 -- ---- a row, and what the table claims
 
@@ -92,16 +87,3 @@ figures =
     ∷ (P 10 is up_to (λ h. pos (one (excluded no_day marked no_day h))) 24 prints (replicate 3 (pos 0) ++ replicate 5 (pos 1) ++ replicate 16 (pos 0)))
     ∷ (P 11 is whole short_curve prints (pos 7 ∷ pos 1 ∷ []))
     ∷ []
-
-pub figures_hold : Holds figures
-unfolding
-    outcome exceeds_room reduced energy_by lower_limit upper_limit min_z max_z integral span sum_up quote quote_from other_than_energy regulation reserve movement
-    cents_of up_to share floor_of remainder left_over excluded some_to
-    reply_by form_in range_in ahead_in_range curve_in_range interval_in_range all_to first_of order_in curves_in curve_keeps seconds_in sum_to first_stop outcome_at
-figures_hold =
-    ap said worked_gives.0
-    and ap said worked_gives.1
-    and ap said worked_gives.2
-    and ap said worked_gives.3
-    and ap replied worked_paid
-    and refl and refl and refl and refl and refl and refl and refl and refl and refl and refl and refl and done

@@ -156,8 +156,8 @@ module _ {hours : ℕ} {L M : List Line} {s t : List ℕ} (o : Beside hours L M 
       number_beside is =
           rw (at_key.0, at_key.1) (subst (λ (x : Line). SaysSame hours x s t (one j) (other j)) (o.lines_s.line j ∙ is) (says j))
 
-    pub unit_beside_lem : number_on L hours UNIT_LINE s ≡ number_on M hours UNIT_LINE t
-    unit_beside_lem = number_beside 0 (lit< tt) refl
+    pub unit_beside : number_on L hours UNIT_LINE s ≡ number_on M hours UNIT_LINE t
+    unit_beside = number_beside 0 (lit< tt) refl
 
     pub marks_beside : marks_by L hours s ≡ marks_by M hours t
     marks_beside =

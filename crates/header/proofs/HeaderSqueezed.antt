@@ -11,7 +11,7 @@ use borrow.Author.Tests.{ltb-true, eq-eqb, eqb-true, eqb-false, not-true}
 use lib.Dec.{ltb, eqb}
 use lib.ListN.{length, get_or, drop}
 use lib.Seq.{get_or-drop, drop-drop}
-use Rattle.exact.specs.Choice.{if◌then◌else◌}
+use Rattle.std.specs.Prelude.{if◌then◌else◌}
 use Rattle.exact.proofs.Parts.{by_test}
 use Rattle.tariff.specs.Sheet.{LONGEST_DAY, all_to}
 use Rattle.tariff.proofs.Tests.{all_at}

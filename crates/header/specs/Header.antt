@@ -1,8 +1,7 @@
 -- A header, a line per key. It knows FORM and RANGE only. A day's sheet has `form`, in form 2 `hours`, then `unit`, `rtc`, seven rows of marks and the
 -- closing empty line: form 1 has eleven lines and is a day of 24 hours, form 2 has twelve and says how many hours its day has. The day of an
 -- internal controllable line (ICL) has a header of its own, of four lines; what decides it is said here with the others, and what it says in IclHeader.
-use Rattle.std.specs.Prelude.{Bool, true, false, List, [], ◌∷◌, ℕ, suc, eqb, ℤ, pos, length}
-use Rattle.exact.specs.Choice.{if◌then◌else◌}
+use Rattle.std.specs.Prelude.{if◌then◌else◌, Bool, true, false, List, [], ◌∷◌, ℕ, suc, eqb, ℤ, pos, length}
 use Rattle.exact.specs.Whole.{eq_z}
 use Rattle.tariff.specs.declared.Marks.{Marks}
 use Rattle.tariff.specs.Sheet.{SHORTEST_DAY, USUAL_DAY, LONGEST_DAY, is_count, hours_by}

@@ -1,8 +1,7 @@
 -- A layout is a list of lines, each as data: a number behind its key, from the least to the most that it may be; a row of digits behind its key,
 -- one for each of the day's `hours`, with those that it admits; a run of digits behind its key, of any length and unjudged; and the closing
 -- empty line. What stands here is said over any layout.
-use Rattle.std.specs.Prelude.{Bool, true, false, List, [], ◌∷◌, ℕ, zero, suc, ◌+◌, ◌^◌, ltb, eqb, ℤ, pos, get_or, length, drop}
-use Rattle.exact.specs.Choice.{if◌then◌else◌}
+use Rattle.std.specs.Prelude.{if◌then◌else◌, Bool, true, false, List, [], ◌∷◌, ℕ, zero, suc, ◌+◌, ◌^◌, ltb, eqb, ℤ, pos, get_or, length, drop}
 use Rattle.tariff.specs.Sheet.{all_to, lies_in}
 use Rattle.tariff.specs.Eligible.{marked}
 use Rattle.tariff.specs.Reply.{FORM, RANGE, Verdict, unless, ◌then◌, first_of}

@@ -19,7 +19,7 @@ use text::Next;
 
 // What a header of a form is read as: its fault or none, how many hours its day has, the place behind it, and the places of its lines, which are
 // told where it has no fault.
-#[derive(Drop)]
+#[derive(Clone, Copy)]
 pub struct Head {
     pub found: Found,
     pub hours: usize,
@@ -28,7 +28,7 @@ pub struct Head {
 }
 
 // The places of the lines and of what stands behind them, or the first line, from 1, that is not as printed.
-#[derive(Drop)]
+#[derive(Clone, Copy)]
 pub struct Places {
     pub broken: usize,
     pub at: [usize; layout::PLACES],

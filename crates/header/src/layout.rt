@@ -5,7 +5,7 @@ ghost use Rattle.header.specs.Layout.{line_in, line_of};
 ghost use Rattle.header.specs.Header.{row, unit_and_marks, form_by, layout_by};
 
 // Which lines a header has to have.
-#[derive(Drop)]
+#[derive(Clone, Copy)]
 pub enum Form {
     One,
     Two,
@@ -14,7 +14,7 @@ pub enum Form {
 
 // A number behind a key, with the least and the most that it may be; a row of digits behind a key, with those that it may have, digit d by bit d;
 // a run of any digits behind a key; or the closing empty line.
-#[derive(Drop)]
+#[derive(Clone, Copy)]
 pub enum Line {
     Number(usize, i64, i64),
     Row(usize, u32),

@@ -1,5 +1,7 @@
 // A header, of a day's sheet or of an internal controllable line's (ICL's) day: its lines as bytes in, the marks and the count of its hours out, or
 // the line that refuses them.
+#![tactic(auto)]
+
 ghost use Rattle.std.specs.Prelude.{◌≡◌};
 ghost use Rattle.tariff.specs.Reply.{shown};
 ghost use Rattle.marks.specs.Word.{word};
@@ -14,7 +16,7 @@ mod layout;
 mod rows;
 
 // What a header says: its fault or none, the day's marks, how many hours it has, the unit, and the line of that, from 1.
-#[derive(Drop)]
+#[derive(Clone, Copy)]
 pub struct Header {
     pub found: Found,
     pub marks: Marks,
@@ -24,7 +26,7 @@ pub struct Header {
 }
 
 // What an ICL's header says: its fault or none, the hours of its day that are not marked, how many it has, and the place behind it.
-#[derive(Drop)]
+#[derive(Clone, Copy)]
 pub struct IclHeader {
     pub found: Found,
     pub unmarked: u32,

@@ -1,4 +1,6 @@
 // The bytes of an internal controllable line's hour block into its record, line by line. Its curve lines are a generator's.
+#![tactic(auto)]
+
 ghost use Rattle.std.specs.Prelude.{◌≡◌};
 ghost use Rattle.iclblocks.specs.IclBlock.{broken, icl_block_of, icl_read_of};
 
@@ -8,7 +10,7 @@ use text::Next;
 mod series;
 
 // A block: `broken` is the first line that is not as printed, or 0 where `hour` is its record.
-#[derive(Drop)]
+#[derive(Clone, Copy)]
 pub struct IclRead {
     pub broken: usize,
     pub hour: IclHour,

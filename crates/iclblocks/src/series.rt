@@ -5,7 +5,7 @@ use tariff::IclInterval;
 use text::Next;
 
 // `broken` is the first line that is not as printed, or 0.
-#[derive(Drop)]
+#[derive(Clone, Copy)]
 pub struct IclSeries {
     pub broken: usize,
     pub n: usize,

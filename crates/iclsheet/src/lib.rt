@@ -1,4 +1,6 @@
 // The block call of an internal controllable line: the bytes of its hour block in, an answer out, a lent row written or left alone.
+#![tactic(auto)]
+
 ghost use Rattle.std.specs.Prelude.{◌≡◌, length};
 ghost use Rattle.tariff.specs.Reply.{told};
 ghost use Rattle.iclblocks.specs.IclBlock.{icl_block_of};

@@ -1,6 +1,5 @@
 -- An import's text: `import=N cts=C`, which ` hours=H` may end, an empty line, and a block for each of the day's hours.
-use Rattle.std.specs.Prelude.{Bool, ◌&&◌, List, ℕ, ℤ, pos, drop}
-use Rattle.exact.specs.Choice.{if◌then◌else◌}
+use Rattle.std.specs.Prelude.{if◌then◌else◌, Bool, ◌&&◌, List, ℕ, ℤ, pos, drop}
 use Rattle.tariff.specs.declared.Curtailed.{Curtailed}
 use Rattle.tariff.specs.declared.ImportHour.{ImportHour}
 use Rattle.tariff.specs.Units.{kw, price}

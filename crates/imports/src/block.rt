@@ -7,7 +7,7 @@ use tariff::{Curtailed, ImportHour, Kw, Price};
 use text::Next;
 
 // The interval lines of a block: `broken` is the first line that is not as printed, or 0.
-#[derive(Drop)]
+#[derive(Clone, Copy)]
 pub struct SeriesRead {
     pub broken: usize,
     pub n: usize,
@@ -15,7 +15,7 @@ pub struct SeriesRead {
 }
 
 // A block: `broken` is the first line that is not as printed, or 0 where `hour` is its record.
-#[derive(Drop)]
+#[derive(Clone, Copy)]
 pub struct ImportRead {
     pub broken: usize,
     pub hour: ImportHour,

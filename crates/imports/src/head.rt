@@ -7,7 +7,7 @@ use tariff::{Check, Found};
 use text::Next;
 
 // Line 1: the place behind it, or nowhere, and its values.
-#[derive(Drop)]
+#[derive(Clone, Copy)]
 pub struct FirstLine {
     pub next: Next,
     pub name: i64,
@@ -17,7 +17,7 @@ pub struct FirstLine {
 
 // What both say: their fault or none, the import's number, whether it is a CTS one, how many hours its day has, and the place
 // behind them.
-#[derive(Drop)]
+#[derive(Clone, Copy)]
 pub struct Head {
     pub found: Found,
     pub name: i64,

@@ -1,4 +1,6 @@
 // The import call: the bytes of a curtailed import's day in, its payment or its refusal out.
+#![tactic(auto)]
+
 ghost use Rattle.std.specs.Prelude.{◌≡◌};
 ghost use Rattle.tariff.specs.Import.{import_told};
 ghost use Rattle.imports.specs.Import.{hours_in, import_reply};

@@ -1,11 +1,15 @@
 // Standard input of any length: read to its end, or until a byte stands behind the last block, since no further one can matter.
+#![tactic(auto)]
+
 ghost use Rattle.std.specs.Prelude.{◌≡◌, take, ◌+◌};
 ghost use Rattle.io.specs.Counts.{IsPrefixLen};
 ghost use Rattle.intake.specs.Intake.{PIECES, TakenIn};
 ghost use Rattle.input.specs.Said.{heads_of, front_pieces, hours_said};
 
+use std::io::Stdin;
+
 // Which text it is: a day's sheet with its neighbours' headers, the day of an internal controllable line, or an import.
-#[derive(Drop)]
+#[derive(Clone, Copy)]
 enum Kind {
     Day,
     Line,
@@ -62,14 +66,14 @@ fn pieces_in(store: &[u8], n: usize, kind: Kind) -> usize
 
 // Takes in a text read by read; answers how many bytes of the store are kept. Nothing says that an input ends, so the turns are counted down
 // from a number that no run uses up.
-fn take_text(store: &mut [u8], kind: Kind) -> usize
+fn take_text(stdin: Stdin, store: &mut [u8], kind: Kind) -> usize
     ensures within { IsPrefixLen result store.new }
     ensures taken { TakenIn store.old PIECES (heads_of kind) store.new result }
 {
     let mut taken = intake::begin(intake::PIECES, heads_of(kind));
     let mut turns = u64::MAX;
     while turns > 0 {
-        taken = intake::take_some(store, taken);
+        taken = intake::take_some(stdin, store, taken);
         let kept = taken.kept;
         let n = kept.n;
         if taken.ended {
@@ -85,25 +89,25 @@ fn take_text(store: &mut [u8], kind: Kind) -> usize
 }
 
 // Takes in what `day` reads: a day's sheet, its header between those of the days before and after.
-pub fn take_day(store: &mut [u8]) -> usize
+pub fn take_day(stdin: Stdin, store: &mut [u8]) -> usize
     ensures within { IsPrefixLen result store.new }
     ensures taken { TakenIn store.old PIECES 3 store.new result }
 {
-    take_text(store, Kind::Day)
+    take_text(stdin, store, Kind::Day)
 }
 
 // Takes in the day of an internal controllable line.
-pub fn take_line(store: &mut [u8]) -> usize
+pub fn take_line(stdin: Stdin, store: &mut [u8]) -> usize
     ensures within { IsPrefixLen result store.new }
     ensures taken { TakenIn store.old PIECES 1 store.new result }
 {
-    take_text(store, Kind::Line)
+    take_text(stdin, store, Kind::Line)
 }
 
 // Takes in an import's text.
-pub fn take_import(store: &mut [u8]) -> usize
+pub fn take_import(stdin: Stdin, store: &mut [u8]) -> usize
     ensures within { IsPrefixLen result store.new }
     ensures taken { TakenIn store.old PIECES 0 store.new result }
 {
-    take_text(store, Kind::Import)
+    take_text(stdin, store, Kind::Import)
 }

@@ -10,7 +10,7 @@ use borrow.Author.Tests.{leb-true, leb-false, ltb-true, ltb-false, lt-leb, le-le
 use lib.Dec.{ltb, leb, eqb}
 use lib.ListN.{length, take, drop, get_or, set, length-append, take-append-drop, drop_of_length-le}
 use lib.Seq.{drop-cons, drop-set-lt, get_or-take, length-take-le, take-set-le, take-set-lt, take-suc-set, take-take}
-use Rattle.exact.specs.Choice.{if◌then◌else◌}
+use Rattle.std.specs.Prelude.{if◌then◌else◌}
 use Rattle.exact.proofs.Parts.{by_test}
 use Rattle.text.specs.Text.{LF}
 use Rattle.lines.specs.Squeezed.{RUN, squeezed_from}

@@ -1,7 +1,7 @@
 -- The next bytes of a line: where its line feed stands, and that a stretch taken in at once leaves what its bytes leave one by one.
 use mathlib.Core.Path.{◌≡◌, refl, sym, ◌∙◌, ap}
 use mathlib.Core.Bool.{Bool, true, false, ◌||◌, and-false}
-use mathlib.Core.List.{List, [], ◌∷◌, ◌++◌, append-nil}
+use mathlib.Core.List.{List, [], ◌∷◌, ◌++◌}
 use Prim.Native.Nat.{ℕ, zero, suc, ◌+◌, ◌-◌, ◌≤◌, ◌<◌, min}
 use native.Mathlib.Nat.{zero-add, suc-add, add-sub_cancel_left}
 use native.Mathlib.Numerals.{add-one}
@@ -9,7 +9,7 @@ use native.Mathlib.Omega.{arith}
 use borrow.Author.Tests.{eq-eqb, ne_eqb, eqb-true, eqb-false}
 use lib.Dec.{eqb}
 use lib.ListN.{length, get_or, set, take, drop, length-set, length-take, length-drop, take-append-drop, drop_of_length-le}
-use lib.Seq.{sets, length-sets, drop-cons, drop-drop, take-take, take_all, take-length, length-take-le}
+use lib.Seq.{sets, length-sets, drop-cons, drop-drop, take-take, take_all, length-take-le}
 use Rattle.exact.proofs.Parts.{by_test}
 use Rattle.exact.proofs.Tests.{neither}
 use Rattle.lines.specs.Pieces.{PIECE}
@@ -175,14 +175,9 @@ all_at_once (b ∷ p) t store i going enough stored plain =
 
 -- ---- as the code takes it in
 
--- `last` is what is lent of the store, once the bytes p are copied to its front
-pub copied_in : (store p last : List ℕ) (n : ℕ) → n ≤ length store
-    → let k = length store - n in
-    last ≡ take (length p) p ++ drop (length p) (take k (drop n store)) → take n store ++ (last ++ drop k (drop n store)) ≡ placed store n p
-copied_in store p last n h e =
-    let k = length store - n in
-    let short : length (drop n store) ≤ k = let l = length-drop n store in omega arith in
-    rw (e, take-length p, take_all k (drop n store) short, drop_of_length-le (drop n store) short, drop-drop (length p) n store, append-nil)
+-- `last` is what is lent of the store from place n on, once the bytes p are copied over it
+pub copied_in : (store p last : List ℕ) (n : ℕ) → last ≡ p → take n store ++ (last ++ drop (n + length p - n) (drop n store)) ≡ placed store n p
+copied_in store p last n e = rw (e, add-sub_cancel_left n (length p), drop-drop (length p) n store)
 
 -- a stretch from a place of a text on
 module _ (store : List ℕ) (i : Intake) (s : List ℕ) (at m : ℕ) where

@@ -1,7 +1,6 @@
 -- A text of any length in bounded memory: of each piece, cut at the empty lines, a program keeps the first 10,640 bytes, which decide it (a
 -- header once it is squeezed), and its empty line; of what follows the last piece, one byte.
-use Rattle.std.specs.Prelude.{◌≡◌, Bool, true, false, not, ◌&&◌, List, [], ◌∷◌, ◌++◌, ℕ, ◌+◌, ◌-◌, ltb, leb, eqb, length, take, drop}
-use Rattle.exact.specs.Choice.{if◌then◌else◌}
+use Rattle.std.specs.Prelude.{if◌then◌else◌, ◌≡◌, Bool, true, false, not, ◌&&◌, List, [], ◌∷◌, ◌++◌, ℕ, ◌+◌, ◌-◌, ltb, leb, eqb, length, take, drop}
 use Rattle.lines.specs.Pieces.{PIECE}
 use Rattle.text.specs.Text.{LF, bytes}
 use Rattle.intake.specs.declared.Intake.{Intake}

@@ -1,6 +1,5 @@
 -- A text that comes in parts is squeezed part by part: how far, and what stands of a part.
-use Rattle.std.specs.Prelude.{◌≡◌, refl, Bool, true, false, ◌&&◌, List, [], ◌∷◌, ◌++◌, ℕ, ◌+◌, ◌-◌, ltb, leb, eqb, replicate}
-use Rattle.exact.specs.Choice.{if◌then◌else◌}
+use Rattle.std.specs.Prelude.{if◌then◌else◌, ◌≡◌, refl, Bool, true, false, ◌&&◌, List, [], ◌∷◌, ◌++◌, ℕ, ◌+◌, ◌-◌, ltb, leb, eqb, replicate}
 use Rattle.text.specs.Text.{LF, ZERO, bytes}
 use Rattle.text.specs.Number.{is_numeral}
 use Rattle.lines.specs.Squeezed.{RUN, squeezed_from}

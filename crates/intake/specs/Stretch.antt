@@ -1,6 +1,5 @@
 -- A stretch: the next bytes of a line, which are kept as they come, all of them at once.
-use Rattle.std.specs.Prelude.{Bool, false, ◌||◌, List, [], ◌∷◌, ℕ, suc, ◌+◌, ◌-◌, min, eqb, take}
-use Rattle.exact.specs.Choice.{if◌then◌else◌}
+use Rattle.std.specs.Prelude.{if◌then◌else◌, Bool, false, ◌||◌, List, [], ◌∷◌, ℕ, suc, ◌+◌, ◌-◌, min, eqb, take}
 use Rattle.lines.specs.Pieces.{PIECE}
 use Rattle.text.specs.Text.{LF}
 use Rattle.intake.specs.declared.Intake.{Intake}

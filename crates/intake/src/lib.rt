@@ -1,11 +1,13 @@
 // A text of any length in bounded memory: what of it decides its answers.
+#![tactic(auto)]
+
 ghost use Rattle.std.specs.Prelude.{◌≡◌, true, ◌+◌, ◌-◌, ◌≤◌, length};
 ghost use Rattle.lines.specs.Pieces.{PIECE};
 ghost use Rattle.io.specs.Counts.{IsPrefixLen};
 ghost use Rattle.intake.specs.Intake.{after, kept, placed, after_all, store_all, at_first, begun, TakenMore, goes_past};
 ghost use Rattle.intake.specs.Front.{PartCame, FrontTaken};
 
-use libc::STDIN_FILENO;
+use std::io::{Read, Stdin};
 
 mod squeeze;
 mod stretch;
@@ -21,7 +23,7 @@ pub const FRONT: usize = lines::PIECE + 65536;
 
 // How far a text is taken in: `n` bytes are kept, `run` of them of this piece, a line begins here or not, and `left` pieces are
 // still to close. `run` goes no further than lines::PIECE; behind the last piece it is 1 once a byte was kept.
-#[derive(Drop)]
+#[derive(Clone, Copy)]
 pub struct Intake {
     pub n: usize,
     pub run: usize,
@@ -165,7 +167,7 @@ pub fn keep(store: &mut [u8], i: Intake, bytes: &[u8]) -> Intake
 }
 
 // A text that comes in reads: what is kept, how far its headers are squeezed, and whether its end was met.
-#[derive(Drop)]
+#[derive(Clone, Copy)]
 pub struct Taken {
     pub kept: Intake,
     pub squeezed: squeeze::Squeeze,
@@ -184,27 +186,27 @@ pub fn begin(pieces: usize, headers: usize) -> Taken
 }
 
 // What one read of standard input brought: `n` bytes of it stand squeezed, and whether the input's end was met.
-#[derive(Drop)]
+#[derive(Clone, Copy)]
 pub struct Part {
     pub n: usize,
     pub squeezed: squeeze::Squeeze,
     pub ended: bool,
 }
 
-// Reads once, to the front of a row. Which bytes come cannot be said: what stands is some text, squeezed.
-fn read_part(row: &mut [u8], squeezed: squeeze::Squeeze) -> Part
+// Reads once, to the front of a row; a read that fails is the input's end. Which bytes come cannot be said: what stands is some text, squeezed.
+fn read_part(stdin: Stdin, row: &mut [u8], squeezed: squeeze::Squeeze) -> Part
     ensures within { IsPrefixLen result.n row.new }
     ensures came { PartCame squeezed row.new result }
 {
-    let got = libc::read(STDIN_FILENO, row);
-    if got <= 0 {
+    let mut stdin = stdin;
+    let n = stdin.read(row).unwrap_or(0);
+    if n == 0 {
         return Part {
             n: 0,
             squeezed,
             ended: true,
         };
     }
-    let n = io::count(got, row);
     let part = squeeze::in_place(row, n, squeezed);
     let squeezed = part.state;
     Part {
@@ -215,13 +217,13 @@ fn read_part(row: &mut [u8], squeezed: squeeze::Squeeze) -> Part
 }
 
 // Takes in what one read of standard input brings. Which bytes that are cannot be said: the store is what some of them leave.
-pub fn take_some(store: &mut [u8], taken: Taken) -> Taken
+pub fn take_some(stdin: Stdin, store: &mut [u8], taken: Taken) -> Taken
     ensures { TakenMore store.old taken store.new result }
 {
     let mut chunk = io::large_buffer();
     let kept = taken.kept;
     let squeezed = taken.squeezed;
-    let part = read_part(&mut chunk, squeezed);
+    let part = read_part(stdin, &mut chunk, squeezed);
     let m = part.n;
     let squeezed = part.squeezed;
     let kept = keep(store, kept, &chunk[..m]);
@@ -233,7 +235,7 @@ pub fn take_some(store: &mut [u8], taken: Taken) -> Taken
 }
 
 // The front of a sheet: `n` bytes of it stand in a store. `ended` says that no more is read: the input's end was met, or the store is full.
-#[derive(Drop)]
+#[derive(Clone, Copy)]
 pub struct Front {
     pub n: usize,
     pub ended: bool,
@@ -241,7 +243,7 @@ pub struct Front {
 
 // Takes in the front of a sheet, read by read, until its header has closed or lines::PIECE bytes of it stand: no further byte can change how the
 // header is judged. Nothing says that an input ends, so the turns are counted down from a number that no run uses up.
-pub fn take_front(store: &mut [u8]) -> Front
+pub fn take_front(stdin: Stdin, store: &mut [u8]) -> Front
     ensures within { IsPrefixLen result.n store.new }
     ensures taken { FrontTaken store.new result }
 {
@@ -249,7 +251,7 @@ pub fn take_front(store: &mut [u8]) -> Front
     let mut n: usize = 0;
     let mut turns = u64::MAX;
     while turns > 0 {
-        let part = read_part(&mut store[n..], squeezed);
+        let part = read_part(stdin, &mut store[n..], squeezed);
         squeezed = part.squeezed;
         n += part.n;
         if part.ended {

@@ -8,7 +8,7 @@ ghost use Rattle.intake.specs.Squeeze.{standing, squeeze_first, squeeze_next, sq
 const RUN: usize = 32;
 
 // How far a text is squeezed: `headers` of its first pieces are still to close, a line begins here or not, and `run` digits stand in front.
-#[derive(Drop)]
+#[derive(Clone, Copy)]
 pub struct Squeeze {
     pub headers: usize,
     pub start: bool,
@@ -16,7 +16,7 @@ pub struct Squeeze {
 }
 
 // A part that is squeezed: `n` bytes of it are left.
-#[derive(Drop)]
+#[derive(Clone, Copy)]
 pub struct Squeezed {
     pub n: usize,
     pub state: Squeeze,

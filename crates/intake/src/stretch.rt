@@ -80,7 +80,8 @@ pub fn take_stretch(store: &mut [u8], i: Intake, part: &[u8]) -> Intake
     ensures store { store.new ≡ placed store.old i.n part.now }
 {
     let n = i.n;
-    let m = bytes::copy(part, &mut store[n..]);
+    let m = part.len();
+    store[n..n + m].copy_from_slice(part);
     Intake {
         n: n + m,
         run: i.run + m,

@@ -7,7 +7,7 @@ use native.Mathlib.Omega.{arith}
 use lib.IntN.{ℤ}
 use lib.ListN.{set, replicate, length-set}
 use Rattle.exact.proofs.Apart.{impossible}
-use Rattle.exact.specs.Choice.{if◌then◌else◌}
+use Rattle.std.specs.Prelude.{if◌then◌else◌}
 use Rattle.exact.proofs.Parts.{by_test}
 use Rattle.exact.proofs.Range.{within_less, within_mul, within_lit, within_zero}
 use Rattle.tariff.specs.declared.Check.{Check}

@@ -5,7 +5,7 @@ use mathlib.Core.List.{List}
 use Prim.Native.Nat.{ℕ, ◌≤◌}
 use lib.IntN.{ℤ, pos, neg_ℤ, ◌+ℤ◌, ◌-ℤ◌, ◌*ℤ◌, +ℤ_idl, +ℤ_idr}
 use lib.Signed.{lt_z, le_z}
-use Rattle.exact.specs.Choice.{if◌then◌else◌}
+use Rattle.std.specs.Prelude.{if◌then◌else◌}
 use Rattle.exact.specs.Whole.{min_z, max_z, span, Within}
 use Rattle.exact.proofs.Parts.{arithℤ, by_test}
 use Rattle.exact.proofs.Ring.{expandℤ}

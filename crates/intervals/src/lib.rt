@@ -1,5 +1,7 @@
 // The contributions of an hour's intervals, behind every check of an hour but ROOM: everything of the hour call but the lent row. So of a generator's hour and
 // of an internal controllable line's. And what the block of a curtailed import gives to its day, behind checks 1, 2, 3 and 5.
+#![tactic(auto)]
+
 ghost use Rattle.std.specs.Prelude.{◌≡◌, ◌≤◌};
 ghost use Rattle.exact.specs.Whole.{sum_to};
 ghost use Rattle.tariff.specs.Reply.{clear};
@@ -19,7 +21,7 @@ mod sums;
 mod walk;
 
 // The first fault of every check of an hour but ROOM; where there is none, the contributions of the hour's intervals, first to last, and their sum.
-#[derive(Drop)]
+#[derive(Clone, Copy)]
 pub struct Contributions {
     pub found: Found,
     pub parts: [Grains; 30],

@@ -2,14 +2,14 @@
 use tariff::{Found, Grains, Kw};
 
 // How far the scan of a curve's steps has come: the next kilowatt to be priced, and what those before it cost.
-#[derive(Drop)]
+#[derive(Clone, Copy)]
 pub struct Run {
     pub at: Kw,
     pub cost: Grains,
 }
 
 // The first fault of an interval, or nothing and each interval's contribution.
-#[derive(Drop)]
+#[derive(Clone, Copy)]
 pub struct Walked {
     pub found: Found,
     pub parts: [Grains; 30],

@@ -36,7 +36,7 @@ pub fn run_from(t: Task) -> Run
 }
 
 // The run goes on at a step's price to its end `e`, or to `high` where that comes first.
-pub fn run_on_lem(run: Run, high: Kw, e: Kw, p: Price, s: Seconds) -> Run
+pub fn run_on(run: Run, high: Kw, e: Kw, p: Price, s: Seconds) -> Run
     requires { Within 4000000000000000 run.cost.0 × Within 2000000 run.at.0 × Within 2000000 high.0 × Within 2000000 e.0 × Within 1000000 p.0 × Within 900 s.0 }
     ensures { result ≡ run_on run high.0 e.0 p.0 s.0 }
 {
@@ -115,7 +115,7 @@ pub fn walk(tasks: [Task; 30], n: usize, da: Curve, rt: Curve) -> Walked
                 if c.n <= j {
                     break 'hour Found::Fault(Check::Reach(place));
                 }
-                run = run_on_lem(run, high, c.to[j], c.at[j], t.s);
+                run = run_on(run, high, c.to[j], c.at[j], t.s);
                 if !units::below(run.at, high) {
                     break 'scan;
                 }

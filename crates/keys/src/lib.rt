@@ -1,4 +1,6 @@
 // The one table of keys: fixed byte strings, compared at the cursor. Every call takes any text, any place and any number.
+#![tactic(auto)]
+
 ghost use Rattle.std.specs.Prelude.{◌≡◌};
 ghost use Rattle.text.specs.Text.{key_at};
 ghost use Rattle.keys.specs.Keys.{key_of, may_miss};

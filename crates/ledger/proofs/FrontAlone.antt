@@ -5,7 +5,7 @@ use mathlib.Core.List.{List, [], ◌∷◌, ◌++◌}
 use Prim.Native.Nat.{ℕ, zero, suc, ◌<◌, ◌≤◌}
 use mathlib.Core.Logic.{inl, inr, ⊎_elim}
 use native.Mathlib.Omega.{arith}
-use Rattle.exact.specs.Choice.{if◌then◌else◌}
+use Rattle.std.specs.Prelude.{if◌then◌else◌}
 use Rattle.exact.specs.Whole.{eq_z}
 use Rattle.exact.proofs.Parts.{by_test, true-eq_z, eq_z-true}
 use Rattle.tariff.specs.Reply.{RANGE, Finding, Verdict, clear, fault, unless, ◌then◌, put_in}

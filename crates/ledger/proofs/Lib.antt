@@ -1,4 +1,4 @@
--- What is proved of days: `DayDemands`, `MidnightDemands`, `StoredDemands` and `IclDayDemands` state it of the definitions, `Unique` that a day call has one reply. The others hold the laws that
+-- What is proved of days: `DayDemands`, `MidnightDemands` and `IclDayDemands` state it of the definitions, `Unique` that a day call has one reply. The others hold the laws that
 -- these and the functions' proofs cite.
 pub mod Totals
 pub mod Walks
@@ -12,7 +12,6 @@ pub mod SheetFront
 pub mod FrontAlone
 pub mod StoredDays
 pub mod StoredAlike
-pub mod StoredFront
 pub mod Midnight
 pub mod IclFront
 pub mod ByReading
@@ -22,5 +21,4 @@ pub mod TwoDays
 pub mod DayDemands
 pub mod DayPoints
 pub mod MidnightDemands
-pub mod StoredDemands
 pub mod IclDayDemands

@@ -3,22 +3,22 @@ use mathlib.Core.Path.{◌≡◌, sym, ap, ◌∙◌}
 use mathlib.Core.Bool.{true}
 use mathlib.Core.List.{List}
 use Prim.Native.Nat.{ℕ}
-use Rattle.exact.specs.Choice.{if◌then◌else◌}
+use Rattle.std.specs.Prelude.{if◌then◌else◌}
 use Rattle.exact.proofs.Parts.{false-eq_z}
 use Rattle.tariff.specs.declared.MarkedDay.{MarkedDay}
-use Rattle.tariff.specs.Reply.{RANGE, Finding, fault}
+use Rattle.tariff.specs.Reply.{RANGE, fault}
 use Rattle.tariff.specs.Eligible.{excluded, no_day}
 use Rattle.lines.specs.Pieces.{rest_after, is_some}
 use Rattle.header.specs.Header.{unit_of, unit_line}
-use Rattle.ledger.specs.Headers.{is_lacking, day_said, unit_fault, HeaderLine, in_header, at_line, which_header}
+use Rattle.ledger.specs.Headers.{is_lacking, day_said, unit_fault, in_header, headers_fault, at_line, which_header}
 use Rattle.ledger.specs.Day.{generator_answer, front_of, day_reply}
 use Rattle.ledger.specs.Demand.{SettledAlike}
-use Rattle.ledger.specs.Midnight.{OtherUnit, SameBlocks, NeighboursAlike}
+use Rattle.ledger.specs.Midnight.{OtherUnit, Refuses, SameBlocks, NeighboursAlike}
 use Rattle.ledger.proofs.HourOfDay.{hour_same, settled_alike}
 
-pub refuses : {j : Finding HeaderLine} {header number place : ℕ} → j ≡ fault number (in_header header place)
-    → (at_line j ≡ fault number place) × (which_header j ≡ header)
-refuses e = (ap at_line e, ap which_header e)
+pub refuses : (s : List ℕ) {header number place : ℕ} → headers_fault s (rest_after 1 s) (rest_after 2 s) ≡ fault number (in_header header place)
+    → Refuses s header number place
+refuses s e = (ap at_line e, ap which_header e)
 
 pub other_unit : (t own : List ℕ) → OtherUnit t own → unit_fault t own ≡ fault RANGE (unit_line t)
 other_unit t own o = rw (o.0, false-eq_z (unit_of t) (unit_of own) o.1)

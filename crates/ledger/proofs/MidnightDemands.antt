@@ -1,12 +1,12 @@
 -- The promises of request 5, "the two hours don't stop at midnight", of the definitions: when a day's headers are read, which of them refuses it, which
--- hours its marks and its neighbours' exclude, and what three stored sheets make. An input is s; its headers are s, restAfter 1 s and restAfter 2 s, each
+-- hours its marks and its neighbours' exclude, and what three stored sheets make. An input is s; its headers are s, rest_after 1 s and rest_after 2 s, each
 -- up to its empty line.
 use mathlib.Core.Path.{◌≡◌, refl, sym, ap, ◌∙◌}
 use mathlib.Core.Bool.{Bool, true, false}
 use mathlib.Core.List.{List}
 use mathlib.Core.Logic.{◌↔◌, ◌⊎◌}
 use Prim.Native.Nat.{ℕ, suc, ◌+◌, ◌<◌}
-use Rattle.exact.specs.Choice.{if◌then◌else◌}
+use Rattle.std.specs.Prelude.{if◌then◌else◌}
 use lib.IntN.{pos}
 use Rattle.tariff.specs.declared.MarkedDay.{MarkedDay}
 use Rattle.tariff.specs.declared.Expected.TheVariants.{Says}
@@ -25,7 +25,7 @@ use Rattle.lines.specs.Pieces.{rest_after, first_piece, OnePiece}
 use Rattle.header.specs.Layout.{line_of}
 use Rattle.header.specs.Header.{layout_by, is_form2, form_by, count_of, hours_of, header_fault, unit_line}
 use Rattle.header.proofs.Forms.{unit_line_lem}
-use Rattle.ledger.specs.Headers.{is_lacking, in_input, day_said, neighbour_of, neighbour_fault, headers_fault, at_line, which_header}
+use Rattle.ledger.specs.Headers.{is_lacking, day_said, neighbour_of, neighbour_fault, headers_fault, at_line, which_header}
 use Rattle.ledger.specs.Day.{generator_answer, front_of, day_reply}
 use Rattle.ledger.specs.Demand.{SettledAlike}
 use Rattle.ledger.specs.Stored.{lacking, day_input}
@@ -49,7 +49,7 @@ a_day_is_read_exactly_when_its_headers_stand s =
       λ w.
           let b = stands_clear s own w.1 in
           let a = stands_clear after own w.2 in
-          ap at_line (none_refuses (in_input s) own (in_input after) b.0 w.0 a.0 b.1 a.1),
+          ap at_line (none_refuses s own after b.0 w.0 a.0 b.1 a.1),
     )
 
 -- Else the first header that is at fault refuses it, in the order read, with its number and place; a neighbour that is lacking has no fault.
@@ -61,7 +61,7 @@ pub the_first_header_at_fault_refuses :
 the_first_header_at_fault_refuses s number place =
     let own = rest_after 1 s in
     let after = rest_after 2 s in
-    (λ e. refuses (before_refuses (in_input s) own (in_input after) e), λ b e. refuses (own_refuses (in_input s) own (in_input after) b e), λ b o e. refuses (after_refuses (in_input s) own (in_input after) b o e))
+    (λ e. refuses s (before_refuses s own after e), λ b e. refuses s (own_refuses s own after b e), λ b o e. refuses s (after_refuses s own after b o e))
 
 -- Where all three are read or lacking, a neighbour of another unit, the day before first, is RANGE at its line `unit`.
 pub another_unit_is_range_at_its_line :
@@ -74,8 +74,8 @@ pub another_unit_is_range_at_its_line :
 another_unit_is_range_at_its_line s b o a =
     let own = rest_after 1 s in
     let after = rest_after 2 s in (
-      λ other. refuses (unit_before_refuses (in_input s) own (in_input after) b o a (other_unit s own other)),
-      λ stands other. refuses (unit_after_refuses (in_input s) own (in_input after) b o a (stands_clear s own stands).1 (other_unit after own other)),
+      λ other. refuses s (unit_before_refuses s own after b o a (other_unit s own other)),
+      λ stands other. refuses s (unit_after_refuses s own after b o a (stands_clear s own stands).1 (other_unit after own other)),
     )
 
 -- That is line 2 of form 1, and line 3 of form 2.
@@ -158,25 +158,25 @@ without_rtc_x5_and_x6_move_no_hour s t o b a off off' alike k =
 
 -- ==== stored sheets, with one header each
 
--- One whose header is closed makes an input with the headers of its neighbours, or the empty lines for them: it is judged as the three headers are, has the
+-- One whose header is read makes an input with the headers of its neighbours, or the empty lines for them: it is judged as the three headers are, has the
 -- hours of the day itself, excludes them by the marks of the three, and its blocks are the day's own.
 pub three_stored_sheets_make_one_input :
     (before sheet after : List ℕ)
     → OnePiece before
     → OnePiece after
-    → OnePiece (first_piece sheet)
+    → header_fault sheet ≡ clear
     → ((front_of (day_input before sheet after)).fault ≡ at_line (headers_fault before sheet after))
     × ((front_of (day_input before sheet after)).header ≡ which_header (headers_fault before sheet after))
     × ((front_of (day_input before sheet after)).hours ≡ hours_of sheet)
     × ((k : ℕ) → (front_of (day_input before sheet after)).is_excluded k ≡ excluded (neighbour_of before) (day_said sheet) (neighbour_of after) k)
     × ((front_of (day_input before sheet after)).body ≡ behind sheet)
-three_stored_sheets_make_one_input before sheet after b a closed =
-    let judged = stored_judged before sheet after b a closed in (
+three_stored_sheets_make_one_input before sheet after b a read =
+    let judged = stored_judged before sheet after b a read in (
       ap at_line judged,
       ap which_header judged,
-      stored_hours before sheet after b a closed,
-      stored_excluded before sheet after b a closed,
-      stored_blocks before sheet after b a closed,
+      stored_hours before sheet after b a read,
+      stored_excluded before sheet after b a read,
+      stored_blocks before sheet after b a read,
     )
 
 -- A header that is read is such a piece, and so is the empty line of a neighbour that is lacking.
@@ -198,8 +198,8 @@ pub a_stored_sheet_alone_is_answered_as_before :
     ≡ generator_answer (rest_after k (behind sheet)) (excluded_alone (day_said sheet) k) (Says (pos k) (hours_of sheet)))
 a_stored_sheet_alone_is_answered_as_before sheet read =
     let one = an_empty_line_is_one_piece in
-    let input = three_stored_sheets_make_one_input lacking sheet lacking one one (header_piece sheet read) in
-    let fault = input.0 ∙ ap at_line (none_refuses (in_input lacking) sheet (in_input lacking) refl read refl refl refl) in (
+    let input = three_stored_sheets_make_one_input lacking sheet lacking one one read in
+    let fault = input.0 ∙ ap at_line (none_refuses lacking sheet lacking refl read refl refl refl) in (
       fault,
       input.2,
       λ k.

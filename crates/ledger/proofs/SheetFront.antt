@@ -7,7 +7,7 @@ use native.Mathlib.Omega.{arith}
 use lib.Dec.{eqb}
 use lib.ListN.{length, drop}
 use lib.Seq.{get_or-take}
-use Rattle.exact.specs.Choice.{if◌then◌else◌}
+use Rattle.std.specs.Prelude.{if◌then◌else◌}
 use Rattle.exact.specs.Whole.{eq_z}
 use Rattle.exact.proofs.Parts.{by_test}
 use Rattle.tariff.specs.declared.Expected.{Expected}
@@ -21,7 +21,7 @@ use Rattle.marks.specs.Word.{word}
 use Rattle.marks.specs.Days.{within}
 use Rattle.marks.proofs.Excluded.{word_of_day}
 use Rattle.keys.specs.Keys.{UNIT_LINE}
-use Rattle.lines.specs.Pieces.{PIECE, rest_after, first_piece, piece}
+use Rattle.lines.specs.Pieces.{PIECE, rest_after, first_piece}
 use Rattle.lines.specs.Squeezed.{squeezed}
 use Rattle.lines.proofs.Pieces.{Shares, whole, empty, lines, piece_shares}
 use Rattle.lines.proofs.Squeezed.{first_byte_stands, rest_squeezed}
@@ -38,40 +38,41 @@ use Rattle.header.proofs.HeaderFirst.{same_first}
 use Rattle.header.proofs.HeaderLocal.{piece_header, bytes_header}
 use Rattle.ledger.specs.declared.heads.Head.{Head}
 use Rattle.ledger.specs.declared.heads.Judged.{Judged}
-use Rattle.ledger.specs.Headers.{Neighbour, is_lacking, day_said, day_beside, neighbour_of, neighbour_fault, unit_fault, fault_between, headers_fault, at_line, which_header}
-use Rattle.ledger.specs.Day.{generator_answer, front_between, front_of}
+use Rattle.ledger.specs.Headers.{is_lacking, day_said, neighbour_of, neighbour_fault, unit_fault, headers_fault, at_line, which_header}
+use Rattle.ledger.specs.Day.{generator_answer, front_of}
 use Rattle.ledger.specs.Walk.{OwnRead, NeighbourRead, JudgedAs, FrontRead}
 use Rattle.ledger.proofs.AnyFront.{SameFront, FrontLaws}
 use Rattle.ledger.proofs.ThreeHeads.{judged_by}
 
 -- ---- what the code reads of it
 
-neighbour_few : (n : Neighbour) → (day_beside n).hours ≤ LONGEST_DAY
-neighbour_few n =
-    by_test n.lacking (λ b. (if b then no_day else day_said n.text).hours ≤ LONGEST_DAY) (λ e. omega arith) (λ e. hours_few (count_of n.text))
+neighbour_few : (t : List ℕ) → (neighbour_of t).hours ≤ LONGEST_DAY
+neighbour_few t =
+    by_test (is_lacking t) (λ b. (if b then no_day else day_said t).hours ≤ LONGEST_DAY) (λ e. omega arith) (λ e. hours_few (count_of t))
 
-module _ (x : Neighbour) (t : List ℕ) (y : Neighbour) (before own after : Head) (judged : Judged)
-    (b : NeighbourRead x before) (o : OwnRead t own) (a : NeighbourRead y after) (j : JudgedAs (fault_between x t y) judged) where
+module _ (s : List ℕ) (before own after : Head) (judged : Judged)
+    (b : NeighbourRead s before) (o : OwnRead (rest_after 1 s) own) (a : NeighbourRead (rest_after 2 s) after)
+    (j : JudgedAs (headers_fault s (rest_after 1 s) (rest_after 2 s)) judged) where
   abbrev days : (MarkedDay → MarkedDay) → ℕ
   days f = word (f own.day).hours (excluded (f before.day) (f own.day) (f after.day))
 
-  says_days : days within ≡ word (hours_of t) (excluded (day_beside x) (day_said t) (day_beside y))
+  says_days : days within ≡ word (hours_of (rest_after 1 s)) (excluded (neighbour_of s) (day_said (rest_after 1 s)) (neighbour_of (rest_after 2 s)))
   says_days =
       (λ i. word (within (o.day i)).hours (excluded (within (b.day i)) (within (o.day i)) (within (a.day i))))
-      ∙ word_of_day (day_beside x) (day_said t) (day_beside y) (neighbour_few x) (hours_few (count_of t)) (neighbour_few y)
+      ∙ word_of_day (neighbour_of s) (day_said (rest_after 1 s)) (neighbour_of (rest_after 2 s))
+      (neighbour_few s) (hours_few (count_of (rest_after 1 s))) (neighbour_few (rest_after 2 s))
 
-  pub front_read : (s body : List ℕ) (word next : ℕ) → word ≡ days within → drop next s ≡ body → next ≤ length s
-      → FrontRead s (front_between x t y body)
-      (record { found = judged.found; header = judged.header; hours = own.day.hours; excluded = word; next = next })
-  front_read s body word next says rest inside = record {
+  pub front_read : (word next : ℕ) → word ≡ days within → drop next s ≡ rest_after 3 s → next ≤ length s
+      → FrontRead s (front_of s) (record { found = judged.found; header = judged.header; hours = own.day.hours; excluded = word; next = next })
+  front_read word next says body inside = record {
     fault = j.fault;
     header = j.header;
     hours = ap (λ (d : MarkedDay). d.hours) o.day;
-    some = hours_some (count_of t);
-    few = hours_few (count_of t);
+    some = hours_some (count_of (rest_after 1 s));
+    few = hours_few (count_of (rest_after 1 s));
     excluded = says ∙ says_days;
     inside = inside;
-    body = rest;
+    body = body;
   }
 
 -- ---- two inputs whose three headers begin with the same byte and say the same
@@ -80,7 +81,7 @@ pub record SameHead (s t : List ℕ) : Type 0 where
   pub first : byte_at s 0 ≡ byte_at t 0
   pub said : SameHeader s t
 
-pub line_same : {s t : List ℕ} → SameHeader s t → unit_line s ≡ unit_line t
+line_same : {s t : List ℕ} → SameHeader s t → unit_line s ≡ unit_line t
 line_same {s} {t} o =
     ap suc
     (sym (unit_line_lem (is_form2 s) (is_count (count_of s)))
@@ -91,16 +92,16 @@ pub day_same : {s t : List ℕ} → SameHeader s t → day_said s ≡ day_said t
 day_same o = λ i. record { hours = o.hours i; marks = o.marks i }
 
 module _ {s t : List ℕ} (o : SameHead s t) where
-  pub lacking_same : is_lacking s ≡ is_lacking t
+  lacking_same : is_lacking s ≡ is_lacking t
   lacking_same = ap (λ (b : ℕ). eqb b LF) o.first
 
-  pub fault_same : neighbour_fault s ≡ neighbour_fault t
+  fault_same : neighbour_fault s ≡ neighbour_fault t
   fault_same = λ i. if lacking_same i then clear else o.said.fault i
 
   pub neighbour_same : neighbour_of s ≡ neighbour_of t
   neighbour_same = λ i. if lacking_same i then no_day else day_same o.said i
 
-  pub unit_same : {own other : List ℕ} → SameHeader own other → unit_fault s own ≡ unit_fault t other
+  unit_same : {own other : List ℕ} → SameHeader own other → unit_fault s own ≡ unit_fault t other
   unit_same p = λ i. if lacking_same i then clear else unless (eq_z (o.said.unit i) (p.unit i)) RANGE (line_same o.said i)
 
 pub headers_same : {s t own other after later : List ℕ} → SameHead s t → SameHead own other → SameHead after later

@@ -6,7 +6,7 @@ use mathlib.Core.Logic.{inr}
 use Prim.Native.Nat.{ℕ}
 use borrow.Author.Tests.{ne_eqb}
 use lib.IntN.{ℤ}
-use Rattle.exact.specs.Choice.{if◌then◌else◌}
+use Rattle.std.specs.Prelude.{if◌then◌else◌}
 use Rattle.exact.specs.Whole.{eq_z}
 use Rattle.tariff.specs.declared.MarkedDay.{MarkedDay}
 use Rattle.tariff.specs.Reply.{RANGE, Verdict, clear, unless}
@@ -36,8 +36,8 @@ pub record SameSheet (s t : List ℕ) : Type 0 where
   pub day : day_said s ≡ day_said t
 
 -- ---- two inputs by what their parts say
-module _ (before sheet after before' sheet' after' : List ℕ) (b : OnePiece before) (a : OnePiece after) (read : OnePiece (first_piece sheet))
-    (b' : OnePiece before') (a' : OnePiece after') (read' : OnePiece (first_piece sheet')) where
+module _ (before sheet after before' sheet' after' : List ℕ) (b : OnePiece before) (a : OnePiece after) (read : header_fault sheet ≡ clear)
+    (b' : OnePiece before') (a' : OnePiece after') (read' : header_fault sheet' ≡ clear) where
   parts_settled : headers_fault before sheet after ≡ headers_fault before' sheet' after' → day_said sheet ≡ day_said sheet'
       → neighbour_of before ≡ neighbour_of before' → neighbour_of after ≡ neighbour_of after' → behind sheet ≡ behind sheet'
       → SettledAlike (front_of (day_input before sheet after)) (front_of (day_input before' sheet' after'))
@@ -73,7 +73,7 @@ pub own_exchanged : (before after s t : List ℕ) → OnePiece before → OnePie
     → SettledAlike (front_of (day_input before s after)) (front_of (day_input before t after))
 own_exchanged before after s t b a o blocks =
     let read = o.one_read ∙ sym o.other_read_lem in
-    parts_settled before s after before t after b a (header_piece s o.one_read) b a (header_piece t o.other_read_lem)
+    parts_settled before s after before t after b a o.one_read b a o.other_read_lem
     (λ i. judged_by (neighbour_fault before) (read i) (neighbour_fault after) (unit_by before (o.unit i)) (unit_by after (o.unit i)))
     o.day refl refl blocks
 
@@ -89,9 +89,6 @@ module _ (s sheet : List ℕ) (read : header_fault s ≡ clear) (unit : unit_of 
   says = neighbour_same same ∙ ap (λ (b : Bool). if b then no_day else day_said s) (ne_eqb (byte_at s 0) LF (not_empty (form_of s) s read))
 
 module _ (sheet s t : List ℕ) (read : header_fault sheet ≡ clear) (o : SameSheet s t) (unit : unit_of s ≡ unit_of sheet) where
-  own : OnePiece (first_piece sheet)
-  own = header_piece sheet read
-
   one : (neighbour_fault (first_piece s) ≡ clear) × (unit_fault (first_piece s) sheet ≡ clear)
   one = clears s sheet o.one_read unit
 
@@ -110,13 +107,13 @@ module _ (sheet s t : List ℕ) (read : header_fault sheet ≡ clear) (o : SameS
   pub before_exchanged : (after : List ℕ) → OnePiece after
       → SettledAlike (front_of (day_input (first_piece s) sheet after)) (front_of (day_input (first_piece t) sheet after))
   before_exchanged after a =
-      parts_settled (first_piece s) sheet after (first_piece t) sheet after (header_piece s o.one_read) a own (header_piece t o.other_read_lem) a own
+      parts_settled (first_piece s) sheet after (first_piece t) sheet after (header_piece s o.one_read) a read (header_piece t o.other_read_lem) a read
       (λ i. judged_by (header i) (header_fault sheet) (neighbour_fault after) (of_unit i) (unit_fault after sheet))
       refl day refl refl
 
   pub after_exchanged : (before : List ℕ) → OnePiece before
       → SettledAlike (front_of (day_input before sheet (first_piece s))) (front_of (day_input before sheet (first_piece t)))
   after_exchanged before b =
-      parts_settled before sheet (first_piece s) before sheet (first_piece t) b (header_piece s o.one_read) own b (header_piece t o.other_read_lem) own
+      parts_settled before sheet (first_piece s) before sheet (first_piece t) b (header_piece s o.one_read) read b (header_piece t o.other_read_lem) read
       (λ i. judged_by (neighbour_fault before) (header_fault sheet) (header i) (unit_fault before sheet) (of_unit i))
       refl refl day refl

@@ -18,9 +18,12 @@ use Rattle.ledger.proofs.SheetFront.{SameHead, same_piece, headers_same, day_sam
 pub header_piece : (sheet : List ℕ) → header_fault sheet ≡ clear → OnePiece (first_piece sheet)
 header_piece sheet read = first_one sheet _ (ends_empty_lem (form_of sheet) sheet read)
 
-module _ (before sheet after : List ℕ) (one : OnePiece before) (other : OnePiece after) (own-one : OnePiece (first_piece sheet)) where
+module _ (before sheet after : List ℕ) (one : OnePiece before) (other : OnePiece after) (read : header_fault sheet ≡ clear) where
   abbrev input : List ℕ
   input = day_input before sheet after
+
+  own_one : OnePiece (first_piece sheet)
+  own_one = header_piece sheet read
 
   -- ---- where each stands
 
@@ -30,7 +33,7 @@ module _ (before sheet after : List ℕ) (one : OnePiece before) (other : OnePie
 
   third : rest_after 2 input ≡ after ++ behind sheet
   unfolding rest_after
-  third = ap behind second ∙ one_behind (first_piece sheet) _ own-one
+  third = ap behind second ∙ one_behind (first_piece sheet) _ own_one
 
   pub stored_blocks : (front_of input).body ≡ behind sheet
   unfolding rest_after
@@ -40,7 +43,7 @@ module _ (before sheet after : List ℕ) (one : OnePiece before) (other : OnePie
   before_head = same_piece input before (one_first before _ one ∙ sym (one_itself before one))
 
   own_head : SameHead (rest_after 1 input) sheet
-  own_head = same_piece (rest_after 1 input) sheet (ap first_piece second ∙ one_first (first_piece sheet) _ own-one)
+  own_head = same_piece (rest_after 1 input) sheet (ap first_piece second ∙ one_first (first_piece sheet) _ own_one)
 
   after_head : SameHead (rest_after 2 input) after
   after_head = same_piece (rest_after 2 input) after (ap first_piece third ∙ one_first after _ other ∙ sym (one_itself after other))

@@ -6,7 +6,7 @@ use lib.IntN.{pos}
 use Rattle.tariff.specs.declared.Expected.TheVariants.{Says}
 use Rattle.tariff.specs.Reply.{Reply}
 use Rattle.lines.specs.Pieces.{rest_after, is_some, first_piece, piece}
-use Rattle.ledger.specs.Day.{BlockAnswer, Front, day_reply, surplus}
+use Rattle.ledger.specs.Day.{BlockAnswer, Front, day_reply}
 use Rattle.ledger.specs.Demand.{SettledAlike, DaysOf}
 use Rattle.ledger.proofs.HourOfDay.{hour_clear, hour_by, settled_alike}
 

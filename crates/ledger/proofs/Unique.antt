@@ -13,11 +13,9 @@ use Rattle.tariff.specs.declared.Total.TheVariants.{Of, Withheld}
 use Rattle.tariff.specs.Total.{Sum, total, no_total, told_total}
 use Rattle.tariff.proofs.HourAnswers.{answers_one}
 use Rattle.ledger.specs.Day.{Front, front_of}
-use Rattle.ledger.specs.Stored.{stored_front}
 use Rattle.ledger.specs.IclDay.{icl_front_of}
 use Rattle.ledger.specs.Walk.{DayOf}
 use Rattle.ledger.proofs.settle_day.Reads as settle_day
-use Rattle.ledger.proofs.settle_stored.Reads as settle_stored
 use Rattle.ledger.proofs.settle_icl_day.Reads as settle_icl_day
 
 abbrev total_told : Sum → Total
@@ -47,12 +45,6 @@ one_day f r s p q = λ i.
 pub one_settle_day : OneReply settle_day.Post
 one_settle_day κ a r s u v p q =
     one_day (front_of a.0.now) r s
-    (record { found = p.0; header = p.1.0; count = p.1.1.0; hours = p.1.1.1.0; total = p.1.1.1.1 })
-    (record { found = q.0; header = q.1.0; count = q.1.1.0; hours = q.1.1.1.0; total = q.1.1.1.1 })
-
-pub one_settle_stored : OneReply settle_stored.Post
-one_settle_stored κ a r s u v p q =
-    one_day (stored_front a.0.now a.1.0.now a.1.1.0.now) r s
     (record { found = p.0; header = p.1.0; count = p.1.1.0; hours = p.1.1.1.0; total = p.1.1.1.1 })
     (record { found = q.0; header = q.1.0; count = q.1.1.0; hours = q.1.1.1.0; total = q.1.1.1.1 })
 

@@ -10,7 +10,7 @@ use Rattle.lines.specs.Pieces.{rest_after, is_some}
 use Rattle.blocks.specs.Block.{block_of}
 use Rattle.sheet.specs.Settle.{reply_to}
 use Rattle.header.specs.Header.{hours_of}
-use Rattle.ledger.specs.Headers.{Neighbour, in_input, day_said, day_beside, fault_between, at_line, which_header}
+use Rattle.ledger.specs.Headers.{day_said, neighbour_of, headers_fault, at_line, which_header}
 
 -- ---- how a block is answered: by its text, whether its hour is excluded, and the hour that it has to say
 
@@ -32,23 +32,22 @@ pub record Front : Type 0 where
   pub body : List ℕ
   pub answer : BlockAnswer
 
--- the front of a day between its neighbours, each with its header, and of the text of its blocks
-abbrev pub front_between : (before : Neighbour) → (own : List ℕ) → (after : Neighbour) → (body : List ℕ) → Front
-front_between before own after body =
-    let judged = fault_between before own after in
+-- the front of what `day` reads: the text is cut at its empty lines, its first three pieces are the headers, each read up to its own empty line, and behind
+-- them stand the blocks
+abbrev pub front_of : List ℕ → Front
+front_of s =
+    let before = s in
+    let own = rest_after 1 s in
+    let after = rest_after 2 s in
+    let judged = headers_fault before own after in
     record {
       fault = at_line judged;
       header = which_header judged;
       hours = hours_of own;
-      is_excluded = excluded (day_beside before) (day_said own) (day_beside after);
-      body = body;
+      is_excluded = excluded (neighbour_of before) (day_said own) (neighbour_of after);
+      body = rest_after 3 s;
       answer = generator_answer;
     }
-
--- the front of what `day` reads: the text is cut at its empty lines, its first three pieces are the headers, each read up to its own empty line, and behind
--- them stand the blocks
-abbrev pub front_of : List ℕ → Front
-front_of s = front_between (in_input s) (rest_after 1 s) (in_input (rest_after 2 s)) (rest_after 3 s)
 
 -- ---- the answers
 

@@ -21,7 +21,7 @@ use Rattle.ledger.specs.declared.heads.Judged.{Judged}
 use Rattle.ledger.specs.declared.hours.Settled.{Settled}
 use Rattle.ledger.specs.declared.hours.Kind.{Kind}
 use Rattle.ledger.specs.declared.hours.Kind.TheVariants.{Generator, Icl}
-use Rattle.ledger.specs.Headers.{Neighbour, day_said, day_beside, fault_beside, HeaderLine, at_line, which_header}
+use Rattle.ledger.specs.Headers.{is_lacking, day_said, neighbour_of, neighbour_fault, HeaderLine, at_line, which_header}
 use Rattle.ledger.specs.Day.{BlockAnswer, generator_answer, Front, day_reply, day_total}
 use Rattle.ledger.specs.IclDay.{icl_answer}
 
@@ -34,12 +34,12 @@ pub record OwnRead (s : List ℕ) (r : Head) : Type 0 where
   pub unit : header_fault s ≡ clear → r.unit ≡ unit_of s
   pub line : r.line ≡ unit_line s
 
-pub record NeighbourRead (n : Neighbour) (r : Head) : Type 0 where
-  pub lacking : r.lacking ≡ n.lacking
-  pub fault : shown r.found ≡ fault_beside n
-  pub day : r.day ≡ day_beside n
-  pub unit : n.lacking ≡ false → header_fault n.text ≡ clear → r.unit ≡ unit_of n.text
-  pub line : n.lacking ≡ false → r.line ≡ unit_line n.text
+pub record NeighbourRead (s : List ℕ) (r : Head) : Type 0 where
+  pub lacking : r.lacking ≡ is_lacking s
+  pub fault : shown r.found ≡ neighbour_fault s
+  pub day : r.day ≡ neighbour_of s
+  pub unit : is_lacking s ≡ false → header_fault s ≡ clear → r.unit ≡ unit_of s
+  pub line : is_lacking s ≡ false → r.line ≡ unit_line s
 
 -- which of them refuses
 pub record JudgedAs (j : Finding HeaderLine) (r : Judged) : Type 0 where

@@ -1,15 +1,14 @@
 // The three headers in front of a day's blocks, each as it is read, and which of them refuses the day.
-ghost use Rattle.std.specs.Prelude.{◌≡◌, true, not, ◌&&◌, List, ℕ, ◌≤◌, length, drop};
+ghost use Rattle.std.specs.Prelude.{◌≡◌, not, ◌&&◌, List, ℕ, ◌≤◌, length, drop};
 ghost use Rattle.exact.specs.Whole.{eq_z};
 ghost use Rattle.tariff.specs.Eligible.{no_day};
-ghost use Rattle.ledger.specs.Headers.{Neighbour, in_input, fault_between};
-ghost use Rattle.ledger.specs.Stored.{stored};
+ghost use Rattle.ledger.specs.Headers.{headers_fault};
 ghost use Rattle.ledger.specs.Walk.{OwnRead, NeighbourRead, JudgedAs};
 
 use tariff::{Check, Found, MarkedDay};
 
 // One of the headers: whether it is lacking, its fault or none, its unit, the line of that, and what it says of its day.
-#[derive(Drop)]
+#[derive(Clone, Copy)]
 pub struct Head {
     pub lacking: bool,
     pub found: Found,
@@ -19,7 +18,7 @@ pub struct Head {
 }
 
 // A fault or none, and the number of the header that has it.
-#[derive(Drop)]
+#[derive(Clone, Copy)]
 pub struct Judged {
     pub found: Found,
     pub header: usize,
@@ -56,38 +55,21 @@ fn no_day() -> MarkedDay
     }
 }
 
-// What is known of a neighbour that is lacking.
-fn no_head() -> Head
-    ensures { (n : Neighbour) → n.lacking ≡ true → NeighbourRead n result }
-{
-    Head {
-        lacking: true,
-        found: Found::Nothing,
-        unit: 0,
-        line: 0,
-        day: no_day(),
-    }
-}
-
 // A neighbour's header that begins at a place, or the empty line that stands for it.
 pub fn read_neighbour(text: &[u8], at: usize) -> Head
     requires { at ≤ length text.now }
-    ensures { NeighbourRead (in_input (drop at text.now)) result }
+    ensures { NeighbourRead (drop at text.now) result }
 {
     if text::byte_at(text, at) == 10 {
-        return no_head();
+        return Head {
+            lacking: true,
+            found: Found::Nothing,
+            unit: 0,
+            line: 0,
+            day: no_day(),
+        };
     }
     read_head(text, at)
-}
-
-// A neighbour's stored sheet, or no bytes for one that is lacking.
-pub fn read_stored(sheet: &[u8]) -> Head
-    ensures { NeighbourRead (stored sheet.now) result }
-{
-    if sheet.len() == 0 {
-        return no_head();
-    }
-    read_head(sheet, 0)
 }
 
 // Whether a neighbour is of another unit than the day.
@@ -99,7 +81,7 @@ fn is_other(neighbour: Head, own: Head) -> bool
 
 // The first header that refuses, in the order read; then a neighbour of another unit, the day before first.
 pub fn judge(before: Head, own: Head, after: Head) -> Judged
-    ensures { (b : Neighbour) (o : List ℕ) (a : Neighbour) → NeighbourRead b before → OwnRead o own → NeighbourRead a after → JudgedAs (fault_between b o a) result }
+    ensures { (b o a : List ℕ) → NeighbourRead b before → OwnRead o own → NeighbourRead a after → JudgedAs (headers_fault b o a) result }
 {
     let found = before.found;
     if let Found::Fault(_) = found {

@@ -9,14 +9,14 @@ ghost use Rattle.ledger.specs.Walk.{answer_of, Rounded, UpToCents, Added, word_f
 use tariff::{Answer, Cents, Check, Expected, HourAnswer, Total};
 
 // The answers of a day's blocks, and their total.
-#[derive(Drop)]
+#[derive(Clone, Copy)]
 pub struct Settled {
     pub hours: [HourAnswer; tariff::LONGEST_DAY],
     pub total: Total,
 }
 
 // Whose blocks they are: a generator's, or an internal controllable line's.
-#[derive(Drop)]
+#[derive(Clone, Copy)]
 pub enum Kind {
     Generator,
     Icl,

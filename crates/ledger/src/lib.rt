@@ -1,11 +1,12 @@
 // The day call: the bytes of a day, with its neighbours' headers, in, the answer of each hour and the day's total out. So of an internal controllable line's day.
+#![tactic(auto)]
+
 ghost use Rattle.std.specs.Prelude.{◌≡◌, ◌≤◌, length};
 ghost use Rattle.tariff.specs.Reply.{shown};
 ghost use Rattle.tariff.specs.Sheet.{LONGEST_DAY};
 ghost use Rattle.tariff.specs.Total.{told_total, told_all};
 ghost use Rattle.ledger.specs.Day as spec;
 ghost use Rattle.ledger.specs.Day.{front_of, day_total};
-ghost use Rattle.ledger.specs.Stored.{stored_front};
 ghost use Rattle.ledger.specs.IclDay.{icl_front_of};
 ghost use Rattle.ledger.specs.Walk.{answer_of, FrontRead, held_replies, refused_day, DayOf};
 
@@ -19,7 +20,7 @@ mod hours;
 
 // A settled day: a header's fault or none, which header that is, how many hours the day has, the answer of each, and the total. Behind the last hour
 // stands the answer of an absent block, or the refusal of a refused header.
-#[derive(Drop)]
+#[derive(Clone, Copy)]
 pub struct Day {
     pub found: Found,
     pub header: usize,
@@ -75,22 +76,6 @@ pub fn settle_day(text: &[u8]) -> Day
     ensures total { told_total result.total ≡ day_total (front_of text.now) }
 {
     settle_behind(text, front::read_front(text), Kind::Generator)
-}
-
-// Settles a day from three stored sheets: its own, and those of the days before and after, of which the header alone is read. No bytes stand for a neighbour
-// that is lacking. Any bytes are judged.
-pub fn settle_stored(before: &[u8], own: &[u8], after: &[u8]) -> Day
-    ensures found { shown result.found ≡ (stored_front before.now own.now after.now).fault }
-    ensures header { result.header ≡ (stored_front before.now own.now after.now).header }
-    ensures count { result.count ≡ (stored_front before.now own.now after.now).hours }
-    ensures hours { told_all result.hours ≡ held_replies (stored_front before.now own.now after.now) }
-    ensures total { told_total result.total ≡ day_total (stored_front before.now own.now after.now) }
-{
-    settle_behind(
-        own,
-        front::read_stored_front(before, own, after),
-        Kind::Generator,
-    )
 }
 
 // Settles the day of an internal controllable line in the same way.

@@ -1,4 +1,6 @@
 // The lent row: contributions to its front, and what is answered.
+#![tactic(auto)]
+
 ghost use Rattle.std.specs.Prelude.{◌≡◌, pos, length, get_or};
 ghost use Rattle.tariff.specs.Units.{grains};
 ghost use Rattle.tariff.specs.Reply.{told};
@@ -6,11 +8,17 @@ ghost use Rattle.lent.specs.Lent.{payment, row_paid};
 
 use tariff::{Answer, Check, Grains};
 
+// So many contributions stand in an hour's parts.
+const ENTRIES: usize = 30;
+
+// A block has no more intervals than these.
+const MOST: usize = 30;
+
 // The contribution of interval i, and 0 behind the 30 that an hour can have.
 fn part_at(parts: [Grains; 30], i: usize) -> i64
     ensures { result ≡ (get_or parts i (grains (pos 0))).0 }
 {
-    if i < 30 {
+    if i < ENTRIES {
         let g = parts[i];
         g.0
     } else {
@@ -24,7 +32,7 @@ pub fn pay(parts: [Grains; 30], n: usize, sum: Grains, row: &mut [i64]) -> Answe
     ensures reply { told result ≡ payment n sum.0 (length row.old) }
     ensures row { row.new ≡ row_paid parts n sum.0 row.old }
 {
-    if 30 < n {
+    if MOST < n {
         return Answer::Refused(Check::Room);
     }
     if row.len() < n {

@@ -1,5 +1,7 @@
 // What an interval asks before it is priced, for any values: whether it lags, which energy branch it takes, and that branch's limit.
 // `d`, `live`, `e` and `a` are document 01's D, R, E and A.
+#![tactic(auto)]
+
 ghost use Rattle.std.specs.Prelude.{◌≡◌};
 ghost use Rattle.tariff.specs.Eligible.{lags};
 ghost use Rattle.tariff.specs.Contributions.{is_lower, lower_limit, is_inject, is_withdraw, upper_limit, limit_of};

@@ -10,7 +10,7 @@ use borrow.Author.Tests.{eqb-true, eqb-false, ne_eqb, not-true, leb-true}
 use lib.Dec.{eqb, leb}
 use lib.ListN.{length}
 use lib.IntN.{ℤ, pos, neg_ℤ}
-use Rattle.exact.specs.Choice.{if◌then◌else◌}
+use Rattle.std.specs.Prelude.{if◌then◌else◌}
 use Rattle.exact.proofs.Apart.{impossible}
 use Rattle.exact.proofs.Tests.{and_left, and_right}
 use Rattle.text.specs.Text.{byte_at, key_at}

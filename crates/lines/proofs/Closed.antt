@@ -7,7 +7,7 @@ use native.Mathlib.Omega.{arith}
 use lib.Dec.{eqb}
 use lib.ListN.{length, take, drop, take-append-drop}
 use lib.Seq.{take-append-le, drop-append-le, take_all, drop-length, length-take-le}
-use Rattle.exact.specs.Choice.{if◌then◌else◌}
+use Rattle.std.specs.Prelude.{if◌then◌else◌}
 use Rattle.text.specs.declared.Next.TheVariants.{At}
 use Rattle.lines.specs.Cut.{empty_in, behind}
 use Rattle.lines.specs.Pieces.{first_piece, OnePiece}

@@ -12,7 +12,7 @@ use lib.Dec.{eqb}
 use lib.IntN.{pos}
 use lib.ListN.{length, length-append, get_or-append, get_or-eq_default}
 use lib.Seq.{get_or-append_seam}
-use Rattle.exact.specs.Choice.{if◌then◌else◌}
+use Rattle.std.specs.Prelude.{if◌then◌else◌}
 use Rattle.exact.proofs.Parts.{by_test}
 use Rattle.text.specs.Text.{byte_at, key_at}
 use Rattle.text.specs.declared.Number.TheVariants.{Bad}

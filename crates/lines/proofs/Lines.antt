@@ -11,7 +11,7 @@ use borrow.Author.Tests.{ltb-true, le-leb, lt-leb}
 use lib.Dec.{ltb, leb}
 use lib.IntN.{ℤ, pos}
 use lib.ListN.{get_or, set, replicate}
-use Rattle.exact.specs.Choice.{if◌then◌else◌}
+use Rattle.std.specs.Prelude.{if◌then◌else◌}
 use Rattle.exact.specs.Whole.{up_to}
 use Rattle.exact.proofs.Parts.{by_test}
 use Rattle.text.specs.Text.{key_at}

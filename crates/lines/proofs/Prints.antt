@@ -40,6 +40,8 @@ pub data AllSay : ℕ → List (List ℕ) → List ℤ → Type 0 where
 
 pub say_at : (k : ℕ) (xs : List (List ℕ)) (zs : List ℤ) → AllSay k xs zs → (j : ℕ) → j < length zs → Says (k + j) (get_or xs j []) (get_or zs j (pos 0))
 say_at k [] [] nothing j h = absurd (not-suc-le-zero h)
+say_at k [] (z ∷ zs) o j h = elim o [ ]
+say_at k (x ∷ xs) [] o j h = elim o [ ]
 say_at k (x ∷ xs) (z ∷ zs) (o and os) zero h = rw add-zero o
 say_at k (x ∷ xs) (z ∷ zs) (o and os) (suc j) h =
     let e : k + 1 + j ≡ k + suc j = omega arith in

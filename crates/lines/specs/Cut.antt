@@ -1,6 +1,5 @@
 -- The text is cut at its empty lines.
-use Rattle.std.specs.Prelude.{◌≡◌, refl, Bool, true, false, List, [], ◌∷◌, ℕ, ◌+◌, eqb, drop}
-use Rattle.exact.specs.Choice.{if◌then◌else◌}
+use Rattle.std.specs.Prelude.{if◌then◌else◌, ◌≡◌, refl, Bool, true, false, List, [], ◌∷◌, ℕ, ◌+◌, eqb, drop}
 use Rattle.text.specs.declared.Next.{Next}
 use Rattle.text.specs.declared.Next.TheVariants.{At, Wrong}
 use Rattle.text.specs.Text.{LF, bytes}

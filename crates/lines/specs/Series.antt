@@ -1,6 +1,5 @@
 -- The lines of a block that are all alike, one after the other from a place on.
-use Rattle.std.specs.Prelude.{List, ℕ, zero, suc, ◌+◌}
-use Rattle.exact.specs.Choice.{if◌then◌else◌}
+use Rattle.std.specs.Prelude.{if◌then◌else◌, List, ℕ, zero, suc, ◌+◌}
 use Rattle.text.specs.declared.Next.{Next}
 use Rattle.text.specs.declared.Next.TheVariants.{At, Wrong}
 use Rattle.lines.specs.Line.{and_then, closes}

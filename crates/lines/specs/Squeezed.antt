@@ -1,7 +1,6 @@
 -- A text whose headers, its first pieces, have no long run of digits: of each run the first 32 stand. No number has as many, and no row of a day's
 -- marks; where a row may have any number of digits, none of them is read. So it is judged alike, and a header that is as printed has a bounded length.
-use Rattle.std.specs.Prelude.{◌≡◌, refl, Bool, true, false, ◌&&◌, List, [], ◌∷◌, ◌++◌, ℕ, zero, suc, ltb, eqb, replicate}
-use Rattle.exact.specs.Choice.{if◌then◌else◌}
+use Rattle.std.specs.Prelude.{if◌then◌else◌, ◌≡◌, refl, Bool, true, false, ◌&&◌, List, [], ◌∷◌, ◌++◌, ℕ, zero, suc, ltb, eqb, replicate}
 use Rattle.text.specs.Text.{LF, ZERO, bytes}
 use Rattle.text.specs.Number.{is_numeral}
 

@@ -1,5 +1,7 @@
 // Lines of keys and values: the one way to read fields, whatever the lines are of. Every call takes any
 // text, any place and any numbers.
+#![tactic(auto)]
+
 ghost use Rattle.std.specs.Prelude.{◌≡◌, drop};
 ghost use Rattle.lines.specs.Cut.{empty_in};
 ghost use Rattle.lines.specs.Pieces.{piece_after};
@@ -13,7 +15,7 @@ mod field;
 pub const PIECE: usize = 10640;
 
 // The values of a line's fields, and the place after them.
-#[derive(Drop)]
+#[derive(Clone, Copy)]
 pub struct Fields {
     pub next: Next,
     pub values: [i64; 20],

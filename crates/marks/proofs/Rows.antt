@@ -9,7 +9,7 @@ use native.Mathlib.Omega.{arith}
 use lib.Dec.{eqb}
 use lib.Bits.{bit_and, bit_or, and_mask, or_mod, or_shifted_r}
 use lib.Pow.{shl_exact, mod-pow-add, high, low, pow_pos}
-use Rattle.exact.specs.Choice.{if◌then◌else◌}
+use Rattle.std.specs.Prelude.{if◌then◌else◌}
 use Rattle.exact.proofs.Parts.{by_test}
 use Rattle.tariff.specs.Eligible.{marked}
 use Rattle.marks.specs.Word.{word}

@@ -1,6 +1,5 @@
 -- A row of marks as one word, hour 0 the lowest bit.
-use Rattle.std.specs.Prelude.{Bool, ℕ, zero, suc, ◌+◌, ◌^◌}
-use Rattle.exact.specs.Choice.{if◌then◌else◌}
+use Rattle.std.specs.Prelude.{if◌then◌else◌, Bool, ℕ, zero, suc, ◌+◌, ◌^◌}
 
 unfoldable pub word : ℕ → (ℕ → Bool) → ℕ
 word zero f = 0

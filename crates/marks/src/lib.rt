@@ -1,4 +1,6 @@
 // Which hours of a day are excluded, as a word with a bit for each hour, hour 0 the lowest.
+#![tactic(auto)]
+
 ghost use Rattle.std.specs.Prelude.{◌≡◌};
 ghost use Rattle.tariff.specs.Eligible.{marked, excluded, no_marks};
 ghost use Rattle.marks.specs.Word.{word};

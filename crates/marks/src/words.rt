@@ -1,7 +1,6 @@
 // Rows of marks as words, over the count of a day's hours: a day on which the clock changes has another count.
-ghost use Rattle.std.specs.Prelude.{◌≡◌, ◌-◌, ◌^◌, ◌<◌, ◌≤◌, min, eqb, get_or};
+ghost use Rattle.std.specs.Prelude.{if◌then◌else◌, ◌≡◌, ◌-◌, ◌^◌, ◌<◌, ◌≤◌, min, eqb, get_or};
 ghost use Rattle.std.specs.Int.Bits.{bit_or};
-ghost use Rattle.exact.specs.Choice.{if◌then◌else◌};
 ghost use Rattle.tariff.specs.Sheet.{LONGEST_DAY};
 ghost use Rattle.tariff.specs.Eligible.{reached, excluded};
 ghost use Rattle.marks.specs.Word.{word};

@@ -1,4 +1,6 @@
 // Bytes and numbers into a lent page. Each call is told the place, and replies the place behind what it wrote.
+#![tactic(auto)]
+
 ghost use Rattle.page.specs.Page.{Put};
 ghost use Rattle.page.specs.Numerals.{counted, valued};
 

@@ -1,6 +1,5 @@
 -- An interval before its derate: it lags, it has no operating point, or it has one.
-use Rattle.std.specs.Prelude.{leb, ℤ}
-use Rattle.exact.specs.Choice.{if◌then◌else◌}
+use Rattle.std.specs.Prelude.{if◌then◌else◌, leb, ℤ}
 use Rattle.tariff.specs.declared.Curve.{Curve}
 use Rattle.tariff.specs.declared.Interval.{Interval}
 use Rattle.tariff.specs.declared.MaybeKw.{MaybeKw}

@@ -1,8 +1,9 @@
 // What an interval asks before its derate, for any values: nothing if it lags, and else its operating point, which the sheet gives or leaves to
 // the real-time curve.
-ghost use Rattle.std.specs.Prelude.{◌≡◌, ◌&&◌};
+#![tactic(auto)]
+
+ghost use Rattle.std.specs.Prelude.{if◌then◌else◌, ◌≡◌, ◌&&◌};
 ghost use Rattle.std.specs.Int.Signed.{le_z};
-ghost use Rattle.exact.specs.Choice.{if◌then◌else◌};
 ghost use Rattle.tariff.specs.Point.{point_by};
 ghost use Rattle.points.specs.declared.Standing.TheVariants.{Lags, Pointless, At};
 ghost use Rattle.points.specs.Standing.{point_found, to_maybe, standing_of};
@@ -11,7 +12,7 @@ use tariff::{Curve, Interval, Kw, MaybeKw, Price};
 
 // An interval that lags asks nothing (25.4). One that has its operating point can be derated and priced; one that should find it on a curve
 // without steps has none.
-#[derive(Drop)]
+#[derive(Clone, Copy)]
 pub enum Standing {
     Lags,
     Pointless,

@@ -7,7 +7,7 @@ use native.Mathlib.Omega.{arith}
 use lib.Dec.{ltb}
 use lib.IntN.{ℤ, pos, negsuc}
 use lib.ListN.{length, length-append}
-use Rattle.exact.specs.Choice.{if◌then◌else◌}
+use Rattle.std.specs.Prelude.{if◌then◌else◌}
 use Rattle.exact.proofs.Parts.{by_test}
 use Rattle.exact.proofs.Sums.{up_length}
 use Rattle.tariff.specs.declared.Expected.TheVariants.{Any}
@@ -22,15 +22,13 @@ use Rattle.sheet.specs.Settle.{reply_to, hour_said}
 use Rattle.tariff.specs.Total.{Sum, total, no_total}
 use Rattle.tariff.specs.Sheet.{LONGEST_DAY}
 use Rattle.ledger.specs.Day.{Front, front_of, day_reply, day_replies, day_total}
-use Rattle.ledger.specs.Stored.{stored_front}
 use Rattle.ledger.specs.IclDay.{icl_front_of}
 use Rattle.ledger.proofs.IclDayDemands.{no_icl_day_is_longer}
 use Rattle.ledger.proofs.DayDemands.{no_day_is_longer}
-use Rattle.ledger.proofs.StoredDemands.{no_stored_day_is_longer}
 use Rattle.imports.specs.Import.{import_reply}
 use Rattle.page.specs.Numerals.{count, counted, signed}
 use Rattle.answers.specs.Answers.{refused_line, pay_line, interval_line, numbered, answer_text, hour_line, total_line, day_lines, refused_in, import_line}
-use Rattle.printed.specs.Printed.{LONGEST, contributions_of, hour_text, day_page, header_end, day_text, stored_text, plain_end, line_text, import_text}
+use Rattle.printed.specs.Printed.{LONGEST, contributions_of, hour_text, day_page, header_end, day_text, plain_end, line_text, import_text}
 
 natural_short : (left n : ℕ) → length (natural left n) ≤ left
 unfolding natural
@@ -138,9 +136,6 @@ header_short header = let n = count_short header in simp length-append (omega ar
 
 pub day_fits : (s : List ℕ) → length (day_text s) ≤ LONGEST
 day_fits s = page_fits header_end header_short (front_of s) (no_day_is_longer s)
-
-pub stored_fits : (before own after : List ℕ) → length (stored_text before own after) ≤ LONGEST
-stored_fits before own after = page_fits header_end header_short (stored_front before own after) (no_stored_day_is_longer before own after)
 
 pub line_fits : (s : List ℕ) → length (line_text s) ≤ LONGEST
 line_fits s = page_fits plain_end (λ header. omega arith) (icl_front_of s) (no_icl_day_is_longer s)

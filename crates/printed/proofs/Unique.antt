@@ -3,7 +3,6 @@ use Rattle.exact.proofs.Unique.{one, OneReply, OneState}
 use Rattle.printed.proofs.answer_text.Reads as answer_text
 use Rattle.printed.proofs.hour_text.Reads as hour_text_lem
 use Rattle.printed.proofs.day_text.Reads as day_text
-use Rattle.printed.proofs.stored_text.Reads as stored_text
 use Rattle.printed.proofs.line_text.Reads as line_text_lem
 use Rattle.printed.proofs.import_text.Reads as import_text
 
@@ -17,7 +16,7 @@ one_answer_row κ a r s u v p q = one _ _ p.0 q.0
 pub one_hour_text : OneReply hour_text_lem.Post
 one_hour_text κ a r s u v p q = one r s p.1.0 q.1.0
 
--- the page is the second parameter, here and below, but for stored sheets
+-- the page is the second parameter, here and below
 pub one_hour_row : OneState (λ κ e. e.1.0.now) hour_text_lem.Post
 one_hour_row κ a r s u v p q = one _ _ p.0 q.0
 
@@ -26,13 +25,6 @@ one_day_text κ a r s u v p q = one r s p.1.0 q.1.0
 
 pub one_day_row : OneState (λ κ e. e.1.0.now) day_text.Post
 one_day_row κ a r s u v p q = one _ _ p.0 q.0
-
-pub one_stored_text : OneReply stored_text.Post
-one_stored_text κ a r s u v p q = one r s p.1.0 q.1.0
-
--- here the fourth
-pub one_stored_row : OneState (λ κ e. e.1.1.1.0.now) stored_text.Post
-one_stored_row κ a r s u v p q = one _ _ p.0 q.0
 
 pub one_line_text : OneReply line_text_lem.Post
 one_line_text κ a r s u v p q = one r s p.1.0 q.1.0

@@ -6,7 +6,6 @@ use Rattle.tariff.specs.Hour.{contribution}
 use Rattle.blocks.specs.Block.{Block, broken, read, block_of}
 use Rattle.sheet.specs.Settle.{reply_to, hour_said}
 use Rattle.ledger.specs.Day.{Front, front_of, day_replies, day_total}
-use Rattle.ledger.specs.Stored.{stored_front}
 use Rattle.ledger.specs.IclDay.{icl_front_of}
 use Rattle.imports.specs.Import.{import_reply}
 use Rattle.answers.specs.declared.Ending.TheVariants.{Plain, Header}
@@ -34,10 +33,6 @@ header_end header = ending_of (Header header)
 
 abbrev pub day_text : List ℕ → List ℕ
 day_text s = day_page header_end (front_of s)
-
--- the same of three stored sheets
-abbrev pub stored_text : (before own after : List ℕ) → List ℕ
-stored_text before own after = day_page header_end (stored_front before own after)
 
 -- `line`: the day of an internal controllable line has one header
 abbrev pub plain_end : ℕ → List ℕ

@@ -1,16 +1,16 @@
 // What the programs print: the text of each answer, byte by byte, into a page that the caller lends. A page that is too short gets the
 // text's beginning. Each call replies how many bytes it wrote; that they lie within the page follows, and is said so that a caller
 // can write them out as they stand. Nothing here writes to a file.
+#![tactic(auto)]
+
 ghost use Rattle.std.specs.Prelude.{◌≡◌, min, length, take};
 ghost use Rattle.io.specs.Counts.{IsPrefixLen};
-ghost use Rattle.tariff.specs.Reply.{shown, told};
-ghost use Rattle.tariff.specs.Total.{told_total, told_all};
-ghost use Rattle.page.specs.Page.{written, Put};
-ghost use Rattle.answers.specs.Answers.{answer_text, ending_of, day_lines};
-ghost use Rattle.printed.specs.Printed.{hour_text, day_text, stored_text, line_text, import_text};
+ghost use Rattle.tariff.specs.Reply.{told};
+ghost use Rattle.page.specs.Page.{written};
+ghost use Rattle.answers.specs.Answers.{answer_text};
+ghost use Rattle.printed.specs.Printed.{hour_text, day_text, line_text, import_text};
 
 use answers::Ending;
-use ledger::Day;
 use tariff::{Answer, Expected};
 
 // No text is longer, as specs/Printed.antt has it.
@@ -37,16 +37,6 @@ pub fn hour_text(block: &[u8], page: &mut [u8]) -> usize
     answers::put_answer(page, 0, said.hour, &grains, said.n, answer)
 }
 
-// The lines of a settled day.
-fn put_lines(page: &mut [u8], day: Day, ending: Ending) -> usize
-    ensures { Put page.old 0 (day_lines (ending_of ending) (shown day.found) (take day.count (told_all day.hours)) (told_total day.total)) page.new result }
-{
-    let found = day.found;
-    let hours = day.hours;
-    let total = day.total;
-    answers::put_day(page, 0, found, ending, hours, day.count, total)
-}
-
 // What `day` prints of a sheet between its neighbours' headers.
 pub fn day_text(text: &[u8], page: &mut [u8]) -> usize
     ensures text { page.new ≡ written page.old 0 (day_text text.now) }
@@ -54,19 +44,11 @@ pub fn day_text(text: &[u8], page: &mut [u8]) -> usize
     ensures within { IsPrefixLen result page.new }
 {
     let day = ledger::settle_day(text);
+    let found = day.found;
+    let hours = day.hours;
+    let total = day.total;
     let ending = Ending::Header(day.header);
-    put_lines(page, day, ending)
-}
-
-// What `day` prints of three stored sheets: the day's own, and those of the days before and after, of which no bytes stand for one that is lacking.
-pub fn stored_text(before: &[u8], own: &[u8], after: &[u8], page: &mut [u8]) -> usize
-    ensures text { page.new ≡ written page.old 0 (stored_text before.now own.now after.now) }
-    ensures count { result ≡ min (length (stored_text before.now own.now after.now)) (length page.old) }
-    ensures within { IsPrefixLen result page.new }
-{
-    let day = ledger::settle_stored(before, own, after);
-    let ending = Ending::Header(day.header);
-    put_lines(page, day, ending)
+    answers::put_day(page, 0, found, ending, hours, day.count, total)
 }
 
 // What `line` prints of the day of an internal controllable line.
@@ -75,7 +57,11 @@ pub fn line_text(text: &[u8], page: &mut [u8]) -> usize
     ensures count { result ≡ min (length (line_text text.now)) (length page.old) }
     ensures within { IsPrefixLen result page.new }
 {
-    put_lines(page, ledger::settle_icl_day(text), Ending::Plain)
+    let day = ledger::settle_icl_day(text);
+    let found = day.found;
+    let hours = day.hours;
+    let total = day.total;
+    answers::put_day(page, 0, found, Ending::Plain, hours, day.count, total)
 }
 
 // What `import` prints of a text.

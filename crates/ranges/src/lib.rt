@@ -1,4 +1,6 @@
 // The range of each number of a record: of an hour's, of an internal controllable line's, and of an import's. Any values are judged: nothing is asked of the caller.
+#![tactic(auto)]
+
 ghost use Rattle.std.specs.Prelude.{◌≡◌, ◌&&◌};
 ghost use Rattle.tariff.specs.Sheet.{is_count, hours_by, is_seconds, is_hour, is_power, is_capacity, is_bid, is_price, curve_in_range, uol_in_range, eop_in_range, ahead_in_range, interval_in_range, is_mark};
 ghost use Rattle.tariff.specs.Controllable.{icl_ahead_in_range, icl_interval_in_range};

@@ -1,6 +1,5 @@
 -- What the numbers of a line say: the first is number 0.
-use Rattle.std.specs.Prelude.{ℕ, ℤ}
-use Rattle.exact.specs.Choice.{if◌then◌else◌}
+use Rattle.std.specs.Prelude.{if◌then◌else◌, ℕ, ℤ}
 use Rattle.exact.specs.Whole.{eq_z}
 use Rattle.tariff.specs.declared.MaybeKw.{MaybeKw}
 use Rattle.tariff.specs.declared.MaybeKw.TheVariants as maybe

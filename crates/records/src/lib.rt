@@ -1,4 +1,6 @@
 // What the numbers of a line say, as the record of its kind of line. Any numbers are taken: their ranges are judged later.
+#![tactic(auto)]
+
 ghost use Rattle.std.specs.Prelude.{◌≡◌, pos, get_or};
 ghost use Rattle.tariff.specs.Hour.{blank};
 ghost use Rattle.tariff.specs.Import.{blank_curtailed};

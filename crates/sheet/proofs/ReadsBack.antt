@@ -9,7 +9,7 @@ use lib.Dec.{eqb}
 use lib.IntN.{ℤ, pos}
 use lib.Signed.{le_z}
 use lib.ListN.{length, get_or, length-append, get_or-eq_default}
-use Rattle.exact.specs.Choice.{if◌then◌else◌}
+use Rattle.std.specs.Prelude.{if◌then◌else◌}
 use Rattle.exact.specs.Whole.{Within}
 use Rattle.exact.proofs.Parts.{arithℤ, apart, by_test}
 use Rattle.tariff.specs.declared.Interval.{Interval}

@@ -1,4 +1,6 @@
 // The block call: the bytes of an hour block in, an answer out, a lent row written or left alone.
+#![tactic(auto)]
+
 ghost use Rattle.std.specs.Prelude.{◌≡◌, length};
 ghost use Rattle.tariff.specs.Reply.{told};
 ghost use Rattle.blocks.specs.Block.{block_of};
@@ -21,7 +23,7 @@ pub fn settle_block(block: &[u8], excluded: bool, expected: Expected, row: &mut 
 }
 
 // What a block says of itself, as a program prints it: its hour and how many intervals it has, or zeros where it cannot be read.
-#[derive(Drop)]
+#[derive(Clone, Copy)]
 pub struct Said {
     pub hour: i64,
     pub n: usize,

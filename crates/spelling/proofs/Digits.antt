@@ -9,7 +9,7 @@ use borrow.Author.Tests.{eqb-true, eqb-false, lt-ltb, le-ltb, ltb-false}
 use lib.Dec.{eqb, ltb, lit<}
 use lib.IntN.{ℤ, pos, neg_ℤ}
 use lib.ListN.{drop}
-use Rattle.exact.specs.Choice.{if◌then◌else◌}
+use Rattle.std.specs.Prelude.{if◌then◌else◌}
 use Rattle.exact.specs.Whole.{Within}
 use Rattle.exact.proofs.Apart.{impossible}
 use Rattle.exact.proofs.Parts.{by_test}

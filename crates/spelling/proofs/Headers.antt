@@ -10,7 +10,7 @@ use lib.Dec.{eqb, ltb, lit<}
 use lib.IntN.{ℤ, pos, negsuc}
 use lib.ListN.{length, drop}
 use lib.Signed.{le_z}
-use Rattle.exact.specs.Choice.{if◌then◌else◌}
+use Rattle.std.specs.Prelude.{if◌then◌else◌}
 use Rattle.exact.specs.Whole.{over, eq_z, up_to}
 use Rattle.exact.proofs.Parts.{by_test}
 use Rattle.exact.proofs.Sums.{up_same}

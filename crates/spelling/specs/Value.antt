@@ -1,6 +1,5 @@
 -- The printed text of the values of a line, as they are read.
-use Rattle.std.specs.Prelude.{◌≡◌, refl, List, ℕ, ◌+◌, ℤ, pos}
-use Rattle.exact.specs.Choice.{if◌then◌else◌}
+use Rattle.std.specs.Prelude.{if◌then◌else◌, ◌≡◌, refl, List, ℕ, ◌+◌, ℤ, pos}
 use Rattle.exact.specs.Whole.{up_to}
 use Rattle.text.specs.Text.{bytes}
 use Rattle.text.specs.Number.{missing}

@@ -7,7 +7,7 @@ use borrow.Author.Tests.{eqb-false}
 use lib.Dec.{eqb}
 use lib.IntN.{ℤ, pos}
 use lib.Signed.{le_z}
-use Rattle.exact.specs.Choice.{if◌then◌else◌}
+use Rattle.std.specs.Prelude.{if◌then◌else◌}
 use Rattle.exact.specs.Whole.{over}
 use Rattle.exact.proofs.Parts.{arithℤ, by_test, apart}
 use Rattle.tariff.specs.Sheet.{SHORTEST_DAY, USUAL_DAY, LONGEST_DAY, is_count, hours_by, is_hour, lies_in}

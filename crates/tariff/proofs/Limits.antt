@@ -3,7 +3,7 @@ use mathlib.Core.Bool.{Bool, true, false, ◌&&◌}
 use Prim.Native.Nat.{ℕ}
 use lib.IntN.{ℤ, pos, ◌+ℤ◌}
 use lib.Signed.{lt_z, le_z}
-use Rattle.exact.specs.Choice.{if◌then◌else◌}
+use Rattle.std.specs.Prelude.{if◌then◌else◌}
 use Rattle.exact.specs.Whole.{min_z, Within}
 use Rattle.exact.proofs.Parts.{by_test, arithℤ, add_parts, min_parts, apart}
 use Rattle.exact.proofs.Range.{within_zero, within_min, within_max}

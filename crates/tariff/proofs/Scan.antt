@@ -6,7 +6,7 @@ use native.Mathlib.Nat.{add-zero, add-suc, sub-zero}
 use native.Mathlib.Omega.{arith}
 use lib.IntN.{ℤ, pos, ◌+ℤ◌, ◌-ℤ◌, ◌*ℤ◌, +ℤ_assoc, +ℤ_idl, +ℤ_idr, suc_ℤ-*ℤ, zero-*ℤ}
 use lib.Signed.{lt_z}
-use Rattle.exact.specs.Choice.{if◌then◌else◌}
+use Rattle.std.specs.Prelude.{if◌then◌else◌}
 use Rattle.exact.specs.Whole.{span, Within}
 use Rattle.exact.proofs.Parts.{arithℤ, add_parts, span_parts}
 use Rattle.exact.proofs.Ring.{+-over-*}

@@ -1,9 +1,8 @@
 -- 25.3.5, "Formula for Day-Ahead Margin Assurance Payments for Internal Controllable Lines", as request 3 of document 02 has it. An internal
 -- controllable line (ICL) injects at one bus and withdraws at another. DASI and DASW are its day-ahead schedules there, AEI and AEW what an
 -- interval had, LBMPI and LBMPW the prices. Neither 25.2.2 nor 25.4 nor 25.5 applies to it.
-use Rattle.std.specs.Prelude.{Bool, ◌&&◌, List, ℕ, get_or, ℤ, pos, ◌+ℤ◌, ◌-ℤ◌, ◌*ℤ◌}
+use Rattle.std.specs.Prelude.{if◌then◌else◌, Bool, ◌&&◌, List, ℕ, get_or, ℤ, pos, ◌+ℤ◌, ◌-ℤ◌, ◌*ℤ◌}
 use Rattle.std.specs.Int.Signed.{lt_z}
-use Rattle.exact.specs.Choice.{if◌then◌else◌}
 use Rattle.exact.specs.Whole.{min_z}
 use Rattle.tariff.specs.declared.Kw.{Kw}
 use Rattle.tariff.specs.declared.IclHour.{IclHour}

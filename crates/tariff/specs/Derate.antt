@@ -1,6 +1,5 @@
 -- "Derate (25.5)": the reduction of the five day-ahead schedules, shared out in whole kilowatts.
-use Rattle.std.specs.Prelude.{Bool, true, false, ◌&&◌, ◌||◌, [], ◌∷◌, ℕ, ◌+◌, ◌-◌, ◌*◌, ◌/◌, ◌%◌, ltb, eqb, get_or, ℤ, pos, ◌-ℤ◌}
-use Rattle.exact.specs.Choice.{if◌then◌else◌}
+use Rattle.std.specs.Prelude.{if◌then◌else◌, Bool, true, false, ◌&&◌, ◌||◌, [], ◌∷◌, ℕ, ◌+◌, ◌-◌, ◌*◌, ◌/◌, ◌%◌, ltb, eqb, get_or, ℤ, pos, ◌-ℤ◌}
 use Rattle.exact.specs.Whole.{over, sum_to}
 use Rattle.tariff.specs.declared.MaybeKw.{MaybeKw}
 use Rattle.tariff.specs.declared.MaybeKw.TheVariants.{Missing, At}

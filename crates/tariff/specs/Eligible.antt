@@ -1,7 +1,6 @@
 -- "Who is eligible": the marks of the day, with those of the days before and after it that reach over midnight, and the interval that lags.
-use Rattle.std.specs.Prelude.{Bool, false, ◌&&◌, ◌||◌, ℕ, zero, suc, ◌+◌, ◌-◌, ◌/◌, ◌%◌, ◌^◌, ltb, leb, eqb, get_or, replicate}
+use Rattle.std.specs.Prelude.{if◌then◌else◌, Bool, false, ◌&&◌, ◌||◌, ℕ, zero, suc, ◌+◌, ◌-◌, ◌/◌, ◌%◌, ◌^◌, ltb, leb, eqb, get_or, replicate}
 use Rattle.std.specs.Int.Signed.{le_z}
-use Rattle.exact.specs.Choice.{if◌then◌else◌}
 use Rattle.tariff.specs.declared.Marks.{Marks}
 use Rattle.tariff.specs.declared.MarkedDay.{MarkedDay}
 use Rattle.tariff.specs.declared.Interval.{Interval}

@@ -1,6 +1,5 @@
 -- The hour: its checks in their order, the contributions of its intervals, the reply, and the lent row.
-use Rattle.std.specs.Prelude.{Bool, List, ℕ, get_or, ℤ, pos, ◌+ℤ◌}
-use Rattle.exact.specs.Choice.{if◌then◌else◌}
+use Rattle.std.specs.Prelude.{if◌then◌else◌, Bool, List, ℕ, get_or, ℤ, pos, ◌+ℤ◌}
 use Rattle.tariff.specs.declared.Hour.{Hour}
 use Rattle.tariff.specs.declared.Interval.{Interval}
 use Rattle.tariff.specs.declared.MaybeKw.TheVariants.{Missing}

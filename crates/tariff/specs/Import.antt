@@ -1,7 +1,6 @@
 -- "Curtailed imports (25.6)": the ranges of an import's numbers, the checks of a block, what its intervals give, and the day.
-use Rattle.std.specs.Prelude.{Bool, not, ◌&&◌, ℕ, ◌+◌, leb, get_or, ℤ, pos, ◌-ℤ◌, ◌*ℤ◌}
+use Rattle.std.specs.Prelude.{if◌then◌else◌, Bool, not, ◌&&◌, ℕ, ◌+◌, leb, get_or, ℤ, pos, ◌-ℤ◌, ◌*ℤ◌}
 use Rattle.std.specs.Int.Signed.{le_z}
-use Rattle.exact.specs.Choice.{if◌then◌else◌}
 use Rattle.exact.specs.Whole.{max_z, eq_z, sum_to}
 use Rattle.tariff.specs.declared.Curtailed.{Curtailed}
 use Rattle.tariff.specs.declared.ImportHour.{ImportHour}

@@ -1,7 +1,6 @@
 -- Request 7, "Operating point from the curve": what `eop=-` leaves to the real-time curve and `pen`.
-use Rattle.std.specs.Prelude.{ℕ, zero, suc, ◌+◌, eqb, ℤ}
+use Rattle.std.specs.Prelude.{if◌then◌else◌, ℕ, zero, suc, ◌+◌, eqb, ℤ}
 use Rattle.std.specs.Int.Signed.{le_z}
-use Rattle.exact.specs.Choice.{if◌then◌else◌}
 use Rattle.tariff.specs.declared.Curve.{Curve}
 use Rattle.tariff.specs.declared.MaybeKw.{MaybeKw}
 use Rattle.tariff.specs.declared.MaybeKw.TheVariants.{Missing, At}

@@ -1,7 +1,6 @@
 -- "The day sheet": the ranges of its numbers, line by line, and the rules of a curve.
-use Rattle.std.specs.Prelude.{Bool, true, ◌&&◌, ℕ, zero, suc, eqb, get_or, ℤ, pos, neg_ℤ}
+use Rattle.std.specs.Prelude.{if◌then◌else◌, Bool, true, ◌&&◌, ℕ, zero, suc, eqb, get_or, ℤ, pos, neg_ℤ}
 use Rattle.std.specs.Int.Signed.{lt_z, le_z}
-use Rattle.exact.specs.Choice.{if◌then◌else◌}
 use Rattle.exact.specs.Whole.{over, eq_z}
 use Rattle.tariff.specs.declared.Curve.{Curve}
 use Rattle.tariff.specs.declared.MaybeKw.{MaybeKw}

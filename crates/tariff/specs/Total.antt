@@ -1,7 +1,6 @@
 -- A day's total: the sum of the paid cents, or none, so that no refused hour hides behind a figure. And what the code's answers to a
 -- day say in these words.
-use Rattle.std.specs.Prelude.{◌≡◌, Bool, List, [], ◌∷◌, ℕ, zero, suc, ℤ, pos, ◌+ℤ◌}
-use Rattle.exact.specs.Choice.{if◌then◌else◌}
+use Rattle.std.specs.Prelude.{if◌then◌else◌, ◌≡◌, Bool, List, [], ◌∷◌, ℕ, zero, suc, ℤ, pos, ◌+ℤ◌}
 use Rattle.tariff.specs.declared.HourAnswer.{HourAnswer}
 use Rattle.tariff.specs.declared.Total.{Total}
 use Rattle.tariff.specs.declared.Total.TheVariants.{Of, Withheld}

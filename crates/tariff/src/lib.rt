@@ -1,32 +1,34 @@
 // The words of the settlement: units, curves, an hour's record, and what a call gives back. The rules themselves stand in
 // specs/, a file for each section of document 01.
+#![tactic(auto)]
+
 ghost use Rattle.std.specs.Prelude.{◌≡◌};
 ghost use Rattle.tariff.specs.Reply.{number_of, place_of};
 
 // Power in whole kilowatts. Withdrawal is negative.
-#[derive(Drop)]
+#[derive(Clone, Copy)]
 pub struct Kw(pub i64);
 
 // Cents per MWh.
-#[derive(Drop)]
+#[derive(Clone, Copy)]
 pub struct Price(pub i64);
 
 // Cents per MW, the price of regulation movement.
-#[derive(Drop)]
+#[derive(Clone, Copy)]
 pub struct MovePrice(pub i64);
 
-#[derive(Drop)]
+#[derive(Clone, Copy)]
 pub struct Seconds(pub i64);
 
 // 1/3,600,000 cent: one kilowatt at one cent per MWh for one second.
-#[derive(Drop)]
+#[derive(Clone, Copy)]
 pub struct Grains(pub i64);
 
-#[derive(Drop)]
+#[derive(Clone, Copy)]
 pub struct Cents(pub i64);
 
 // A bid curve: from `start` on, `n` steps, each up to its end `to` at its price `at`.
-#[derive(Drop)]
+#[derive(Clone, Copy)]
 pub struct Curve {
     pub start: Kw,
     pub n: usize,
@@ -36,14 +38,14 @@ pub struct Curve {
 
 // A power that an interval line may leave out, as `-`: the upper operating limit `uol`, which then derates nothing, and the economic operating
 // point `eop`, which is then worked out from the real-time curve.
-#[derive(Drop)]
+#[derive(Clone, Copy)]
 pub enum MaybeKw {
     Missing,
     At(Kw),
 }
 
 // Line 1 of a block: day-ahead schedules, and the bids of the last four.
-#[derive(Drop)]
+#[derive(Clone, Copy)]
 pub struct DayAhead {
     pub en: Kw,
     pub reg: Kw,
@@ -57,7 +59,7 @@ pub struct DayAhead {
 }
 
 // An interval line.
-#[derive(Drop)]
+#[derive(Clone, Copy)]
 pub struct Interval {
     pub s: Seconds,
     pub en: Kw,
@@ -82,7 +84,7 @@ pub struct Interval {
 }
 
 // The record of an hour block, with whatever numbers its block had: `n` intervals, the first of `iv`.
-#[derive(Drop)]
+#[derive(Clone, Copy)]
 pub struct Hour {
     pub hour: i64,
     pub ahead: DayAhead,
@@ -100,7 +102,7 @@ pub const LONGEST_DAY: usize = 25;
 pub const USUAL_COUNT: i64 = 24;
 
 // A day's marks: a digit of `cat` for each hour, and the exceptions 25.2.2.1 to 25.2.2.6 as words, hour 0 the lowest bit.
-#[derive(Drop)]
+#[derive(Clone, Copy)]
 pub struct Marks {
     pub rtc: bool,
     pub cat: [u8; LONGEST_DAY],
@@ -113,14 +115,14 @@ pub struct Marks {
 }
 
 // How many hours a day has, and its marks.
-#[derive(Drop)]
+#[derive(Clone, Copy)]
 pub struct MarkedDay {
     pub hours: usize,
     pub marks: Marks,
 }
 
 // The hour that a block has to say: any, or its place in a day, and how many hours that day has.
-#[derive(Drop)]
+#[derive(Clone, Copy)]
 pub enum Expected {
     Any,
     Says(i64, usize),
@@ -128,7 +130,7 @@ pub enum Expected {
 
 // The check that refuses, and its place: a line of the block, or an interval from 1. Four have one place only. Back is request 2's: a day of
 // 23 or 25 hours has no form 1. Point is request 7's: no step to work an operating point out from.
-#[derive(Drop)]
+#[derive(Clone, Copy)]
 pub enum Check {
     Form(usize),
     Range(usize),
@@ -178,35 +180,35 @@ pub fn place_of(check: Check) -> usize
 }
 
 // What a call gives back.
-#[derive(Drop)]
+#[derive(Clone, Copy)]
 pub enum Answer {
     Paid(Grains, Cents),
     Refused(Check),
 }
 
 // The answer of an hour of a day: a struct, since an array of enums cannot be a field.
-#[derive(Drop)]
+#[derive(Clone, Copy)]
 pub struct HourAnswer {
     pub answer: Answer,
 }
 
 // The sum of a day's paid cents. It is withheld where an hour was refused or bytes follow the last block, so that a refused hour never
 // hides behind a total.
-#[derive(Drop)]
+#[derive(Clone, Copy)]
 pub enum Total {
     Of(Cents),
     Withheld,
 }
 
 // What one check finds.
-#[derive(Drop)]
+#[derive(Clone, Copy)]
 pub enum Found {
     Nothing,
     Fault(Check),
 }
 
 // A line of a curtailed import's block: what 25.6 reads of an interval. `cut` is 1 where the market curtailed the import.
-#[derive(Drop)]
+#[derive(Clone, Copy)]
 pub struct Curtailed {
     pub s: Seconds,
     pub cut: i64,
@@ -218,7 +220,7 @@ pub struct Curtailed {
 }
 
 // The record of an import's block: the hour's day-ahead schedule and decremental bid, and `n` intervals, the first of `iv`.
-#[derive(Drop)]
+#[derive(Clone, Copy)]
 pub struct ImportHour {
     pub hour: i64,
     pub den: Kw,
@@ -229,7 +231,7 @@ pub struct ImportHour {
 
 // An interval line of an internal controllable line, an ICL: its real-time schedule, the energy that it injected and withdrew, and the prices at
 // its injection and its withdrawal bus.
-#[derive(Drop)]
+#[derive(Clone, Copy)]
 pub struct IclInterval {
     pub s: Seconds,
     pub en: Kw,
@@ -241,7 +243,7 @@ pub struct IclInterval {
 
 // The record of an ICL's hour block: the day-ahead schedules for injection and withdrawal, its two bid curves, and `n` intervals, the
 // first of `iv`.
-#[derive(Drop)]
+#[derive(Clone, Copy)]
 pub struct IclHour {
     pub hour: i64,
     pub dasi: Kw,
@@ -253,14 +255,14 @@ pub struct IclHour {
 }
 
 // What an import's block is worth: its part of the day's sum, or the check that refuses it.
-#[derive(Drop)]
+#[derive(Clone, Copy)]
 pub enum Worth {
     Part(Grains),
     Refused(Check),
 }
 
 // Where an import is refused: in its first two lines, in the block of an hour, or for bytes behind its last block.
-#[derive(Drop)]
+#[derive(Clone, Copy)]
 pub enum ImportFault {
     Head(Check),
     Block(usize, Check),
@@ -268,7 +270,7 @@ pub enum ImportFault {
 }
 
 // What the import call gives back: paid, with the import's number, its sum and its cents, or refused.
-#[derive(Drop)]
+#[derive(Clone, Copy)]
 pub enum ImportAnswer {
     Paid(i64, Grains, Cents),
     Refused(ImportFault),

@@ -1,6 +1,5 @@
 -- What an interval asks of the walk: nothing, or, of an internal controllable line, the kilowatts between DASI and AEI.
-use Rattle.std.specs.Prelude.{false, ◌&&◌, pos, ◌-ℤ◌}
-use Rattle.exact.specs.Choice.{if◌then◌else◌}
+use Rattle.std.specs.Prelude.{if◌then◌else◌, false, ◌&&◌, pos, ◌-ℤ◌}
 use Rattle.tariff.specs.declared.Kw.{Kw}
 use Rattle.tariff.specs.declared.Found.{Found}
 use Rattle.tariff.specs.declared.Found.TheVariants.{Nothing}

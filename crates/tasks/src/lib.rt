@@ -1,5 +1,7 @@
 // What an interval asks of the walk over an hour's intervals, and what one of an internal controllable line asks. Any values are taken:
 // nothing is asked of the caller.
+#![tactic(auto)]
+
 ghost use Rattle.std.specs.Prelude.{◌≡◌, ◌-ℤ◌};
 ghost use Rattle.exact.specs.Whole.{Within};
 ghost use Rattle.tariff.specs.Units.{grains_of};
@@ -9,7 +11,7 @@ use tariff::{Found, Grains, IclInterval, Kw, Price, Seconds};
 
 // To price the kilowatts from `from` to `limit`, on the day-ahead curve if `lower`. What the interval gives besides is counted inside the cap
 // of an upper branch (`beside`), or outside of it (`others`). Where a check stops it, `stop` has the fault.
-#[derive(Drop)]
+#[derive(Clone, Copy)]
 pub struct Task {
     pub stop: Found,
     pub lower: bool,

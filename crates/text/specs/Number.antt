@@ -1,6 +1,5 @@
 -- A number has an optional minus and one to seven digits, without leading zeros and without -0.
-use Rattle.std.specs.Prelude.{Bool, List, ℕ, zero, suc, ◌+◌, ◌-◌, ◌*◌, ◌<◌, ltb, eqb, ℤ, pos, neg_ℤ}
-use Rattle.exact.specs.Choice.{if◌then◌else◌}
+use Rattle.std.specs.Prelude.{if◌then◌else◌, Bool, List, ℕ, zero, suc, ◌+◌, ◌-◌, ◌*◌, ◌<◌, ltb, eqb, ℤ, pos, neg_ℤ}
 use Rattle.text.specs.declared.digits.Digits.{Digits}
 use Rattle.text.specs.declared.digits.Digits.TheVariants.{Natural, NoDigits}
 use Rattle.text.specs.declared.Number.{Number}

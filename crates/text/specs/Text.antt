@@ -1,9 +1,8 @@
 -- A text is a list of bytes. Past its end stands END, which is no byte.
-use Rattle.std.specs.Prelude.{◌≡◌, refl, List, eqb, ℕ, ◌+◌, get_or}
+use Rattle.std.specs.Prelude.{if◌then◌else◌, ◌≡◌, refl, List, eqb, ℕ, ◌+◌, get_or}
 use mathlib.Core.List as L
 use Prim.Native.Char.{code}
 use Prim.Native.String.{String, [], ◌∷◌}
-use Rattle.exact.specs.Choice.{if◌then◌else◌}
 use Rattle.text.specs.declared.Next.{Next}
 use Rattle.text.specs.declared.Next.TheVariants.{At, Wrong}
 

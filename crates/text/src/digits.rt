@@ -5,7 +5,7 @@ ghost use Rattle.text.specs.Number.{more_digits, natural_at, Small};
 use crate::byte_at;
 
 // Digits and the place after them, or none.
-#[derive(Drop)]
+#[derive(Clone, Copy)]
 pub enum Digits {
     Natural(u64, usize),
     NoDigits,
@@ -34,6 +34,9 @@ pub fn more_digits(s: &[u8], at: usize, first: u64) -> Digits
     Digits::Natural(v, i)
 }
 
+// The digit behind which no other one stands: a zero.
+const LONE_DIGIT: u64 = 48;
+
 // One to seven digits with no leading zero.
 pub fn natural_at(s: &[u8], at: usize) -> Digits
     ensures { (result ≡ natural_at s.now at) × Small result }
@@ -45,7 +48,7 @@ pub fn natural_at(s: &[u8], at: usize) -> Digits
     if 57 < b {
         return Digits::NoDigits;
     }
-    if b == 48 {
+    if b == LONE_DIGIT {
         return Digits::Natural(0, at + 1);
     }
     more_digits(s, at + 1, b - 48)

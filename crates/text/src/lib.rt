@@ -1,4 +1,6 @@
 // Numbers and keys at a place of a text. Every call takes any text and any place.
+#![tactic(auto)]
+
 ghost use Rattle.std.specs.Prelude.{◌≡◌, ◌≤◌};
 ghost use Rattle.text.specs.Text.{byte_at, key_at};
 ghost use Rattle.text.specs.Number.{digit_at, number_at};
@@ -8,14 +10,14 @@ use digits::Digits;
 mod digits;
 
 // A number and the place after it, or none.
-#[derive(Drop)]
+#[derive(Clone, Copy)]
 pub enum Number {
     Got(i64, usize),
     Bad,
 }
 
 // The place after what was looked for, or another thing there.
-#[derive(Drop)]
+#[derive(Clone, Copy)]
 pub enum Next {
     At(usize),
     Wrong,

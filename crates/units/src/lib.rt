@@ -1,4 +1,6 @@
 // Comparisons and choices of the units, for any values: each answers as its definition says and asks nothing of its caller.
+#![tactic(auto)]
+
 ghost use Rattle.std.specs.Prelude.{◌≡◌, pos, nat_abs};
 ghost use Rattle.std.specs.Int.Signed.{lt_z, le_z};
 ghost use Rattle.exact.specs.Whole.{min_z, max_z, eq_z};
@@ -63,6 +65,9 @@ pub fn gain_or_zero(g: Grains) -> Grains
     if g.0 < 0 { Grains(0) } else { g }
 }
 
+// Half a cent in grains.
+const HALF_A_CENT: i64 = 1800000;
+
 // The nearest cent, a half going up. What is left of a cent decides: half a cent added first could overflow.
 pub fn cents_of(g: Grains) -> Cents
     ensures { result.0 ≡ cents_of g.0 }
@@ -71,7 +76,7 @@ pub fn cents_of(g: Grains) -> Cents
         return Cents(0);
     }
     let whole = g.0 / 3600000;
-    if g.0 % 3600000 < 1800000 {
+    if g.0 % 3600000 < HALF_A_CENT {
         Cents(whole)
     } else {
         Cents(whole + 1)

@@ -1,23 +1,40 @@
 // `up`: moves a stored sheet from standard input up from form 1 to form 2. It writes the moved sheet and nothing else to standard output; a refusal goes to
 // standard error, and then standard output stays empty. Given any argument, such as a sheet's name, it moves nothing and says on standard error how
 // it is used.
+#![tactic(auto)]
+
 use archive::Way;
-use libc::STDERR_FILENO;
+use std::env::{Env, FillError};
+use std::io::Stderr;
 
-fn say(line: &[u8]) {
-    io::write_all(STDERR_FILENO, line);
+// Whether an argument stands behind the program's own name.
+fn has_argument(rt: &HostRuntime) -> bool {
+    !matches!(rt.arg(1, &mut []), Err(FillError::NotPresent))
 }
 
-fn say_usage() {
-    say(b"up takes no argument. It reads a stored sheet on standard input: up < SHEET > MOVED\n");
-    say(b"It writes the sheet in form 2, or refused=R at=L on standard error.\n");
-    say(b"Read on: docs/sheet.md for the sheet, docs/answers.md for a refusal.\n");
+fn say(stderr: Stderr, line: &[u8]) {
+    let _ = stderr.write_all(line);
 }
 
-fn main() {
-    if 1 < os::arg_count() {
-        say_usage();
+fn say_usage(stderr: Stderr) {
+    say(
+        stderr,
+        b"up takes no argument. It reads a stored sheet on standard input: up < SHEET > MOVED\n",
+    );
+    say(
+        stderr,
+        b"It writes the sheet in form 2, or refused=R at=L on standard error.\n",
+    );
+    say(
+        stderr,
+        b"Read on: docs/sheet.md for the sheet, docs/answers.md for a refusal.\n",
+    );
+}
+
+fn main(rt: HostRuntime) {
+    if has_argument(&rt) {
+        say_usage(rt.stderr());
         return;
     }
-    passing::pass_sheet(Way::Up);
+    passing::pass_sheet(&rt, Way::Up);
 }

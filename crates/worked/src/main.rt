@@ -1,5 +1,7 @@
 // Document 01's worked hour, and the same hour with a day-ahead curve that ends one kilowatt short, settled and printed.
-use libc::STDOUT_FILENO;
+#![tactic(auto)]
+
+use std::io::Stdout;
 use tariff::{Curve, DayAhead, Expected, Hour, Interval, Kw, MaybeKw, MovePrice, Price, Seconds};
 
 // Two steps from 0: the minimum generation block, and the rest up to `end`.
@@ -70,15 +72,15 @@ fn hour_14(da_end: i64) -> Hour {
     }
 }
 
-fn print_hour(h: Hour) {
+fn print_hour(stdout: Stdout, h: Hour) {
     let mut grains = [0i64; 4];
     let answer = engine::settle(h, false, Expected::Any, &mut grains);
     let mut page = [0u8; printed::LONGEST];
     let m = printed::answer_text(h.hour, &grains, 4, answer, &mut page);
-    io::write_all(STDOUT_FILENO, &page[..m]);
+    let _ = stdout.write_all(&page[..m]);
 }
 
-fn main() {
-    print_hour(hour_14(100000));
-    print_hour(hour_14(99999));
+fn main(rt: HostRuntime) {
+    print_hour(rt.stdout(), hour_14(100000));
+    print_hour(rt.stdout(), hour_14(99999));
 }

@@ -1,0 +1,61 @@
+-- `block::read_block` meets its contract, line by line.
+use mathlib.Core.Path.{◌≡◌, refl, sym, ◌∙◌}
+use mathlib.Core.List.{List}
+use Prim.Native.Nat.{ℕ}
+use native.Mathlib.Omega.{arith}
+use Rattle.text.specs.declared.Next.{Next}
+use Rattle.lines.specs.declared.Fields.{Fields}
+use Rattle.keys.specs.Keys.{AHEAD, DA, RT}
+use Rattle.lines.specs.Line.{fields_at, and_then, line_feed, value_in}
+use Rattle.curves.proofs.CurveLines.{curve_next, curve_said_lem}
+use Rattle.curves.proofs.Frames.{frame_line1, frame_line2, frame_line3, frame_series, frame_read}
+use Rattle.blocks.specs.Block.{generator, ahead_line, block_at, hour_read_of}
+use Rattle.exact.proofs.Held.{held_is}
+use Rattle.lines.proofs.Lines.{FieldsRead, fields_read, line_is}
+use Rattle.blocks.proofs.Values.{ahead_same}
+use Rattle.blocks.proofs.Blocks.{hour_made}
+use borrow.Author.Rules.{rules}
+use Rattle.blocks.proofs.block.read_block.Goals as goal
+
+-- what is known of line 1
+fields1 : (s : List ℕ) (at : ℕ) (r : Fields) → r ≡ fields_at AHEAD 10 s at → FieldsRead AHEAD 10 s at r
+fields1 s at r e = fields_read AHEAD 10 _ at _ refl e
+
+line1 : (s : List ℕ) (at : ℕ) (r : Fields) → r ≡ fields_at AHEAD 10 s at → (end : Next) → end ≡ and_then r.next (line_feed s) → ahead_line s at ≡ end
+line1 s at r e end f = line_is AHEAD 10 _ at _ _ (fields1 s at r e).next f
+
+pub returns-in_default : goal.returns-in_default
+unfolding block_at
+returns-in_default c = frame_line1 generator hour_read_of _ _ _ (line1 _ _ _ c.fields_at-first.ensures _ c.line_end.ensures ∙ c.in_default.is) c.broken_block.ensures
+
+pub returns-in_default-da_next : goal.returns-in_default-da_next
+unfolding block_at
+returns-in_default-da_next c =
+    frame_line2 generator hour_read_of _ _ _ (line1 _ _ _ c.fields_at-first.ensures _ c.line_end.ensures ∙ c.in-At.is)
+    _ (sym (curve_next DA _ _ _ c.curve_at-da.ensures) ∙ c.in_default-da_next.is) c.broken_block-in_default-da_next.ensures
+
+pub returns-in_default-rt_next : goal.returns-in_default-rt_next
+unfolding block_at
+returns-in_default-rt_next c =
+    frame_line3 generator hour_read_of _ _ _ (line1 _ _ _ c.fields_at-first.ensures _ c.line_end.ensures ∙ c.in-At.is)
+    _ (sym (curve_next DA _ _ _ c.curve_at-da.ensures) ∙ c.in-At-da_next.is)
+    _ (sym (curve_next RT _ _ _ c.curve_at-rt.ensures) ∙ c.in_default-rt_next.is) c.broken_block-in_default-rt_next.ensures
+
+pub returns-then-broken-ne0 : goal.returns-then-broken-ne0
+unfolding block_at
+returns-then-broken-ne0 c =
+    frame_series generator hour_read_of _ _ _ (line1 _ _ _ c.fields_at-first.ensures _ c.line_end.ensures ∙ c.in-At.is)
+    _ (sym (curve_next DA _ _ _ c.curve_at-da.ensures) ∙ c.in-At-da_next.is)
+    _ (sym (curve_next RT _ _ _ c.curve_at-rt.ensures) ∙ c.in-At-rt_next.is)
+    _ _ _ c.series_at-series.ensures _ c.if-broken-ne0.true c.broken_block-then-broken-ne0.ensures
+
+pub returns : goal.returns
+unfolding block_at
+returns c =
+    let v = (fields1 _ _ _ c.fields_at-first.ensures).values in
+    frame_read generator hour_read_of _ _ _ (line1 _ _ _ c.fields_at-first.ensures _ c.line_end.ensures ∙ c.in-At.is)
+    _ (sym (curve_next DA _ _ _ c.curve_at-da.ensures) ∙ c.in-At-da_next.is)
+    _ (sym (curve_next RT _ _ _ c.curve_at-rt.ensures) ∙ c.in-At-rt_next.is)
+    _ _ _ c.series_at-series.ensures _ c.if-broken-ne0.false
+    (hour_made (value_in AHEAD c.args.s.now c.args.at) _ _ _ _ (held_is _ _ (search rules) (v 0 (omega arith))) (c.ahead_of-ahead.ensures ∙ ahead_same _ _ v)
+    (curve_said_lem DA _ _ _ c.curve_at-da.ensures _ c.in-At-da_next.is) (curve_said_lem RT _ _ _ c.curve_at-rt.ensures _ c.in-At-rt_next.is))

@@ -1,0 +1,44 @@
+use mathlib.Core.Path.{◌≡◌, sym, ◌∙◌}
+use Prim.Native.Nat.{ℕ}
+use native.Mathlib.Omega.{arith}
+use lib.IntN.{ℤ}
+use Rattle.exact.proofs.Sums.{sum_none, sum_more}
+use Rattle.tariff.specs.declared.ImportHour.{ImportHour}
+use Rattle.tariff.specs.Import.{curtailed, import_seconds}
+use Rattle.tariff.proofs.ImportRanges.{import_form_says}
+use Rattle.checks.proofs.Seconds.{one_more_fits}
+use Rattle.checks.proofs.curtailed.seconds_fault.Goals as goal
+
+abbrev seconds_of : ImportHour → ℕ → ℤ
+seconds_of h k = (curtailed h k).s.0
+
+pub loop-i-init : goal.loop-i-init
+loop-i-init c = (omega arith, sym (sum_none (seconds_of c.args.h)))
+
+pub seconds_plus-sum-requires : goal.seconds_plus-sum-requires
+seconds_plus-sum-requires c =
+    let l = c.loop-i in
+    let h = c.args.h in
+    one_more_fits (seconds_of h) h.n l.i _ (import_form_says h c.requires.0) c.requires.1 (omega arith) l.invariant.1
+
+pub loop-i-preserved : goal.loop-i-preserved
+loop-i-preserved c =
+    let l = c.loop-i in
+    (omega arith, c.seconds_plus-sum.ensures ∙ rw (sum_more (seconds_of c.args.h) l.i, l.invariant.1))
+
+pub returns : goal.returns
+unfolding import_seconds
+returns c =
+    let l = c.loop-i in
+    let all : l.i ≡ c.args.h.n = omega arith in
+    rw (← all, ← l.invariant.1) c.sum_fault.ensures
+
+-- the loop goes over at most 30 intervals
+pub offset_bounds-iv-i : goal.offset_bounds-iv-i
+offset_bounds-iv-i c = omega (arith, import_form_says c.args.h c.requires.0)
+
+pub bounds-iv-i : goal.bounds-iv-i
+bounds-iv-i c = omega (arith, import_form_says c.args.h c.requires.0)
+
+pub overflow_add-i : goal.overflow_add-i
+overflow_add-i c = omega (arith, import_form_says c.args.h c.requires.0)

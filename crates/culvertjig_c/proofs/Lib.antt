@@ -1,0 +1,3 @@
+-- What is proved of the exports.
+pub mod Unique
+pub mod Exports

@@ -1,0 +1,13 @@
+-- `words::no_category` marks the hours without a category. The loop's invariant: the row so far is the word of the hours passed.
+use mathlib.Core.Path.{◌≡◌}
+use Prim.Native.Nat.{◌-◌, ◌≤◌}
+use lib.Dec.{eqb}
+use lib.ListN.{get_or}
+use Rattle.marks.specs.Word.{word}
+use Rattle.marks.proofs.words.no_category.Given as goal
+
+abbrev pub invariant-loop-h : goal.invariant-loop-h
+invariant-loop-h l = (l.h ≤ l.hours) × (l.row ≡ word l.h (λ k. eqb (get_or l.cat k 0) 0))
+
+abbrev pub decreases-loop-h : goal.decreases-loop-h
+decreases-loop-h l = l.hours - l.h
