@@ -1,12 +1,12 @@
 #!/bin/sh
 # The must-fail edits, as evidence.
 #
-#   sh edits.sh                after rt ci: what it said of each edit
+#   sh edits.sh LOG            of rt ci: what it said of each edit
 #   sh edits.sh same [CRATE..] tries each edit's harmless twin
 #
 # An edit shows something if the crate that it leaves is wrong, goes through the same steps, and is refused because a fact is false. So
-# in the log of no edit may a proof's answers have lost their places, as they do where the code takes a step more or less: then anything
-# would be refused. Nor may an edited definition be one that has no meaning. And each edit has a twin, its `same:` lines in place of its `new:` ones: a change of the same shape at the same
+# rt ci has said of each that it is refused, and of none that the refusal is for a name that the edit took away, as it is where the code takes a step more or
+# less: then anything would be refused. Nor may an edited text be one that cannot be read, or a refusal a limit of the prover. And each edit has a twin, its `same:` lines in place of its `new:` ones: a change of the same shape at the same
 # place that says the same value another way. The twins have to be proved; `same` tries that, which takes as long as the edits do, and
 # is for whoever writes or doubts an edit. The last line counts what passed and what failed; the status is 1 if anything failed.
 . "$(dirname -- "$0")/common.sh"
@@ -14,27 +14,14 @@
 root=$(cd "$(dirname -- "$0")/.." && pwd) || exit 2
 cd "$root" || exit 2
 
-# what an answer says that stands at another place of the code, or at none
-lost='expected type `tie\.Need-[^`]*`, but this has type `tie\.Need-|has no `Need-|`tie\.Need-[^`]*` (is )?not|has no field|takes? (more|fewer|too many)'
-
-# Whether an edited file of specs/ says something that has no meaning: an expression of one type where another is asked for.
-ill_typed() { # LOG EDIT
-    sed -n 's/^file: \(specs\/.*\)$/\1/p' "$2" | sort -u | while IFS= read -r file; do
-        grep -E "/$file:[0-9]+:[0-9]+: error: .*expected type \`[^\`]*\`, but this has type" "$1"
-    done | grep -q .
-}
-
 refused() {
-    log=target/must-fail/$1/$2/.log
-    if [ ! -f "$log" ]; then
-        fail "$1/$2 was not tried: no $log"
-    elif grep -Eq "$lost" "$log"; then
-        fail "$1/$2 is refused for its shape: $(grep -Em1 "$lost" "$log" | cut -c 1-200)"
-    elif ill_typed "$log" "crates/$1/must-fail/$2.edit"; then
-        fail "$1/$2 is refused since what it writes has no meaning"
-    else
-        pass
-    fi
+    line=$(grep -F "rt: must-fail $1/$2.edit: " "$log" | tail -n 1)
+    case $line in
+        '') fail "$1/$2 was not tried: $log says nothing of it" ;;
+        *': refused, as it must be (only'*) fail "$1/$2 is refused for its shape: $(echo "$line" | cut -c 1-200)" ;;
+        *': refused, as it must be'*) pass ;;
+        *) fail "$(echo "$line" | cut -c 1-200)" ;;
+    esac
     if awk '/^new:/ { n++; want = 1 } /^same:/ { s++; if (!want) bad = 1; want = 0 } END { exit !(n && s == n && !bad) }' "crates/$1/must-fail/$2.edit"; then
         pass
     else
@@ -69,7 +56,7 @@ proved() {
     cp -R "crates/$1" "$work/tree/crates/$1"
     if ! twin "crates/$1/must-fail/$2.edit" "$work/tree/crates/$1"; then
         fail "$1/$2: an 'old:' text is not there"
-    elif (cd "$work/tree" && rt check "$1") >"$work/said" 2>&1; then
+    elif (cd "$work/tree/crates/$1" && rt check) >"$work/said" 2>&1; then
         echo "$1/$2: its twin is proved"
         pass
     else
@@ -86,13 +73,11 @@ if [ "${1:-}" = same ]; then
     # a copy of the repository, with what is proved already
     work=$(mktemp -d) || exit 2
     trap 'rm -rf "$work"' EXIT
-    mkdir -p "$work/tree/target"
-    cp -R crates crates.txt "$work/tree"
-    for part in rlib stamp log; do
-        [ ! -d target/$part ] || cp -R target/$part "$work/tree/target/$part"
-    done
-elif [ $# -ne 0 ]; then
-    usage "edits.sh [same [CRATE..]]"
+    mkdir -p "$work/tree" && cp -R crates crates.txt "$work/tree"
+else
+    [ $# -eq 1 ] && [ -r "$1" ] || usage "edits.sh LOG | same [CRATE..]"
+    log=$1
+    shift
 fi
 for edit in crates/*/must-fail/*.edit; do
     crate=${edit#crates/}

@@ -1,6 +1,6 @@
 #!/bin/sh
 # The library as C and Rust programs use it. include/culvertjig.h and the
-# declarations of the Rust callers have to say what crates/culvertjig/src/lib.rt
+# declarations of the Rust callers have to say what crates/culvertjig_c/src/lib.rt
 # says, parameter by parameter. The examples are built by README's commands, and
 # have to settle the sample hour, or the sample days of a controllable line.
 #
@@ -13,13 +13,13 @@
 [ $# -eq 1 ] || usage "examples.sh PATH-OF-ARCHIVE"
 need cc rustc
 if [ ! -f "$1" ]; then
-    echo "no archive $1: rt staticlib culvertjig writes it" >&2
+    echo "no archive $1: sh tools/staticlib writes it" >&2
     exit 2
 fi
 work_in examples
 work=$(cd "$work" && pwd) || exit 2
 root=$(cd "$(dirname -- "$0")/.." && pwd) || exit 2
-source=$root/crates/culvertjig/src/lib.rt
+source=$root/crates/culvertjig_c/src/lib.rt
 header=$root/include/culvertjig.h
 
 # --- The declarations: a line for each function, in one spelling.

@@ -27,7 +27,7 @@ command_with() {
     commands "A month of sheets" | grep -e "^$1" | grep -v -e "$2"
 }
 
-install=$(commands "Install" | grep -v '^rt ')
+install=$(commands "Install" | grep -v '^sh tools/build ')
 here=$(command_with 'settle day sheets' parallel)
 there=$(command_with 'settle day sheets parallel --sshloginfile nodes' none)
 imports=$(command_with 'settle import imports' none)

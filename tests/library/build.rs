@@ -1,4 +1,4 @@
-//! Links the static library that `rt staticlib culvertjig` writes.
+//! Links the static library that `sh tools/staticlib` writes.
 
 use std::env;
 use std::path::PathBuf;
@@ -14,7 +14,7 @@ fn main() {
     println!("cargo:rerun-if-changed={}", archive.display());
     if !archive.is_file() {
         let missing = archive.display();
-        println!("cargo:warning={missing} is not there: `rt staticlib culvertjig` writes it");
+        println!("cargo:warning={missing} is not there: `sh tools/staticlib` writes it");
         std::process::exit(1);
     }
     println!("cargo:rustc-link-search=native={}", folder.display());
