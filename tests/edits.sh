@@ -14,12 +14,25 @@
 root=$(cd "$(dirname -- "$0")/.." && pwd) || exit 2
 cd "$root" || exit 2
 
+# Whether the first thing said of an edit is that a file of specs/ which it changes has no meaning: an expression of one type where another is asked for.
+ill_typed() { # LINE EDIT
+    sed -n 's/^file: \(specs\/.*\)$/\1/p' "$2" | sort -u | while IFS= read -r file; do
+        printf '%s\n' "$1" | grep -E "[ /]$file:[0-9]+:[0-9]+: error: .*expected type"
+    done | grep -q .
+}
+
 refused() {
     line=$(grep -F "rt: must-fail $1/$2.edit: " "$log" | tail -n 1)
     case $line in
         '') fail "$1/$2 was not tried: $log says nothing of it" ;;
         *': refused, as it must be (only'*) fail "$1/$2 is refused for its shape: $(echo "$line" | cut -c 1-200)" ;;
-        *': refused, as it must be'*) pass ;;
+        *': refused, as it must be'*)
+            if ill_typed "$line" "crates/$1/must-fail/$2.edit"; then
+                fail "$1/$2 is refused since what it writes has no meaning"
+            else
+                pass
+            fi
+            ;;
         *) fail "$(echo "$line" | cut -c 1-200)" ;;
     esac
     if awk '/^new:/ { n++; want = 1 } /^same:/ { s++; if (!want) bad = 1; want = 0 } END { exit !(n && s == n && !bad) }' "crates/$1/must-fail/$2.edit"; then
