@@ -1,20 +1,22 @@
 -- "Programs": the lines of each kind of answer, byte by byte. Each line ends with LF.
-use Rattle.std.specs.Prelude.{List, [], ◌∷◌, ◌++◌, ℕ, suc, ℤ, pos}
+use Rattle.std.specs.Prelude.{List, [], ◌∷◌, ◌++◌, ℕ, suc, ℤ, pos, None, Some}
 use Rattle.tariff.specs.Reply.{Reply, paid, refused, Verdict, clear, fault}
 use Rattle.tariff.specs.Total.{Sum, total, no_total}
 use Rattle.tariff.specs.Import as import
 use Rattle.text.specs.Text.{LF, bytes}
 use Rattle.page.specs.Numerals.{counted, valued}
-use Rattle.answers.specs.declared.Ending.{Ending}
-use Rattle.answers.specs.declared.Ending.TheVariants.{Plain, Header}
 
 abbrev pub feed : List ℕ
 feed = LF ∷ []
 
+-- what ends a refused header's line: nothing, or which of several headers it is
+abbrev pub Ending : Type 0
+Ending = Option ℕ
+
 -- what ends the line of a refused header: nothing, or which of several headers it is
 abbrev pub ending_of : Ending → List ℕ
-ending_of Plain = []
-ending_of (Header header) = counted (bytes " header=") header
+ending_of None = []
+ending_of (Some header) = counted (bytes " header=") header
 
 abbrev pub refused_ending : (ending : List ℕ) → (number place : ℕ) → List ℕ
 refused_ending ending number place = counted (bytes "refused=") number ++ counted (bytes " at=") place ++ (ending ++ feed)

@@ -1,11 +1,10 @@
 -- Document 01's listing, and a line of each other kind, as they are printed.
-use Rattle.std.specs.Prelude.{◌≡◌, refl, [], ◌∷◌, pos, negsuc}
+use Rattle.std.specs.Prelude.{◌≡◌, refl, [], ◌∷◌, pos, negsuc, Some}
 use Rattle.tariff.specs.Reply.{paid, refused, ORDER, SECONDS, BACK, POINT, clear, fault}
 use Rattle.tariff.specs.Import as import
 use Rattle.text.specs.Text.{bytes}
 use Rattle.text.specs.Decimal.{natural}
 use Rattle.tariff.specs.Total.{total, no_total}
-use Rattle.answers.specs.declared.Ending.TheVariants.{Header}
 use Rattle.answers.specs.Answers.{numbered, refusal_text, answer_text, ending_of, day_lines, import_line}
 
 pub listing_printed : answer_text (pos 14) (pos 27000000000 ∷ pos 72900000000 ∷ negsuc 8999999999 ∷ pos 0 ∷ []) (paid (pos 90900000000) (pos 25250))
@@ -31,7 +30,7 @@ unfolding natural
 bad_header = refl
 
 -- the header of the day after
-pub bad_neighbour : day_lines (ending_of (Header 2)) (fault 2 3) [] no_total ≡ bytes "refused=2 at=3 header=2\n"
+pub bad_neighbour : day_lines (ending_of (Some 2)) (fault 2 3) [] no_total ≡ bytes "refused=2 at=3 header=2\n"
 unfolding natural
 bad_neighbour = refl
 

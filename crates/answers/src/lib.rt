@@ -10,7 +10,7 @@ ghost use Rattle.page.specs.Page.{Put};
 ghost use Rattle.page.specs.Numerals.{counted};
 ghost use Rattle.answers.specs.Answers.{feed, refused_line, refusal_text, pay_line, interval_line, numbered, answer_text, hour_line, total_line, ending_of, refused_ending, day_lines, import_line};
 
-use tariff::{Answer, Cents, Check, Found, HourAnswer, ImportAnswer, ImportFault, Total};
+use tariff::{Answer, Cents, Check, HourAnswer, ImportAnswer, ImportFault};
 
 // The place of a refusal ends its line.
 fn put_place(page: &mut [u8], at: usize, place: usize) -> usize
@@ -20,26 +20,19 @@ fn put_place(page: &mut [u8], at: usize, place: usize) -> usize
     page::put(page, behind_place, b"\n")
 }
 
-// What ends the line of a refused header: nothing, or which of several headers it is.
-#[derive(Clone, Copy)]
-pub enum Ending {
-    Plain,
-    Header(usize),
-}
-
-fn put_end(page: &mut [u8], at: usize, ending: Ending) -> usize
+fn put_end(page: &mut [u8], at: usize, ending: Option<usize>) -> usize
     ensures { Put page.old at (ending_of ending ++ feed) page.new result }
 {
     match ending {
-        Ending::Plain => page::put(page, at, b"\n"),
-        Ending::Header(header) => {
+        None => page::put(page, at, b"\n"),
+        Some(header) => {
             let behind_header = page::put_count(page, at, b" header=", header as u64);
             page::put(page, behind_header, b"\n")
         }
     }
 }
 
-fn put_ending(page: &mut [u8], at: usize, check: Check, ending: Ending) -> usize
+fn put_ending(page: &mut [u8], at: usize, check: Check, ending: Option<usize>) -> usize
     ensures { Put page.old at (refused_ending (ending_of ending) (number_of check) (place_of check)) page.new result }
 {
     let number = tariff::number_of(check);
@@ -52,16 +45,16 @@ fn put_ending(page: &mut [u8], at: usize, check: Check, ending: Ending) -> usize
 fn put_refusal(page: &mut [u8], at: usize, check: Check) -> usize
     ensures { Put page.old at (refused_line (number_of check) (place_of check)) page.new result }
 {
-    put_ending(page, at, check, Ending::Plain)
+    put_ending(page, at, check, None)
 }
 
 // The refusal of a sheet that is only judged, or nothing.
-pub fn put_found(page: &mut [u8], at: usize, found: Found) -> usize
+pub fn put_found(page: &mut [u8], at: usize, found: Result<(), Check>) -> usize
     ensures { Put page.old at (refusal_text (shown found)) page.new result }
 {
     match found {
-        Found::Nothing => at,
-        Found::Fault(check) => put_refusal(page, at, check),
+        Ok(()) => at,
+        Err(check) => put_refusal(page, at, check),
     }
 }
 
@@ -156,15 +149,15 @@ fn put_hours(
     next
 }
 
-fn put_total(page: &mut [u8], at: usize, total: Total) -> usize
+fn put_total(page: &mut [u8], at: usize, total: Option<Cents>) -> usize
     ensures { Put page.old at (total_line (told_total total)) page.new result }
 {
     match total {
-        Total::Of(cents) => {
+        Some(cents) => {
             let behind_cents = page::put_signed(page, at, b"total=", cents.0);
             page::put(page, behind_cents, b"\n")
         }
-        Total::Withheld => page::put(page, at, b"total=-\n"),
+        None => page::put(page, at, b"total=-\n"),
     }
 }
 
@@ -172,17 +165,17 @@ fn put_total(page: &mut [u8], at: usize, total: Total) -> usize
 pub fn put_day(
     page: &mut [u8],
     at: usize,
-    found: Found,
-    ending: Ending,
+    found: Result<(), Check>,
+    ending: Option<usize>,
     hours: [HourAnswer; tariff::LONGEST_DAY],
     count: usize,
-    total: Total,
+    total: Option<Cents>,
 ) -> usize
     ensures { Put page.old at (day_lines (ending_of ending) (shown found) (take count (told_all hours)) (told_total total)) page.new result }
 {
     match found {
-        Found::Fault(check) => put_ending(page, at, check, ending),
-        Found::Nothing => {
+        Err(check) => put_ending(page, at, check, ending),
+        Ok(()) => {
             let behind_hours = put_hours(page, at, hours, count);
             put_total(page, behind_hours, total)
         }

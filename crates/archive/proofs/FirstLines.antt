@@ -1,4 +1,5 @@
 -- What the first lines of a sheet decide, whatever stands behind them: its form, its count and its layout, and where the line `unit` begins.
+use Rattle.std.specs.Prelude.{Some}
 use mathlib.Core.Path.{◌≡◌, refl}
 use mathlib.Core.Bool.{Bool, true, false}
 use mathlib.Core.List.{List, ◌++◌}
@@ -7,7 +8,6 @@ use native.Mathlib.Omega.{arith}
 use lib.IntN.{pos}
 use lib.ListN.{length}
 use Rattle.tariff.specs.Sheet.{USUAL_DAY, is_count, hours_by}
-use Rattle.text.specs.declared.Next.TheVariants.{At}
 use Rattle.text.specs.Text.{key_at}
 use Rattle.text.specs.Number.{digit_at, more_digits, natural_at, number_at}
 use Rattle.lines.specs.Line.{value_at, field_at, after_fields, value_in}
@@ -52,7 +52,7 @@ module _ (way : Way) (rest : List ℕ) where
   layout_is = λ i. layout_by (form_by (form_said_lem way rest i)) (is_count (count_said_lem way rest i))
 
 -- the line `unit` begins behind them, and they are in range
-pub unit_begins : (way : Way) (rest : List ℕ) → line_place (layout way rest) USUAL_DAY (lines_before (is_two way)) (first_lines way ++ rest) ≡ At (length (first_lines way))
+pub unit_begins : (way : Way) (rest : List ℕ) → line_place (layout way rest) USUAL_DAY (lines_before (is_two way)) (first_lines way ++ rest) ≡ Some (length (first_lines way))
 unfolding line_place header_line said_at after_fields field_at value_at key_at number_at natural_at more_digits digit_at
 unit_begins Up rest = refl
 unit_begins Down rest = refl

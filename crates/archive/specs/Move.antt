@@ -1,9 +1,8 @@
 -- "Our archive, up and back": a stored sheet of form 1 becomes one of form 2, and back. Moving up adds `hours=24` and changes the form number;
 -- moving down undoes both. Only the header is rewritten, and the blocks are not looked at.
-use Rattle.std.specs.Prelude.{◌≡◌, Bool, true, not, List, [], ◌++◌, ℕ, eqb, ℤ, pos, length, drop}
+use Rattle.std.specs.Prelude.{◌≡◌, Bool, true, not, List, [], ◌++◌, ℕ, eqb, ℤ, pos, length, drop, Some}
 use Rattle.tariff.specs.Sheet.{USUAL_DAY}
 use Rattle.tariff.specs.Reply.{RANGE, BACK, Verdict, clear, fault, unless, ◌then◌}
-use Rattle.text.specs.declared.Next.TheVariants.{At}
 use Rattle.text.specs.Text.{bytes}
 use Rattle.keys.specs.Keys.{FORM_LINE}
 use Rattle.header.specs.Layout.{number_from, layout_form, layout_range}
@@ -62,7 +61,7 @@ form_for Up = pos 1
 form_for Down = pos 2
 
 abbrev pub form_said : List ℕ → ℤ
-form_said s = number_from FORM_LINE s (At 0)
+form_said s = number_from FORM_LINE s (Some 0)
 
 -- a sheet s goes this way and becomes t
 pub record Moves (way : Way) (s t : List ℕ) : Type 0 where

@@ -9,7 +9,7 @@ ghost use Rattle.page.specs.Page.{Put};
 ghost use Rattle.archive.specs.Move.{goes, fits, moved, move_fault, moved_text};
 ghost use Rattle.archive.specs.Told.{is_form, fault_by};
 
-use tariff::{Check, Found};
+use tariff::Check;
 
 // Up from form 1 to form 2, or back down.
 #[derive(Clone, Copy)]
@@ -21,17 +21,17 @@ pub enum Way {
 // What refuses a sheet, or nothing where it moves; `n` bytes were written.
 #[derive(Clone, Copy)]
 pub struct Moved {
-    pub found: Found,
+    pub found: Result<(), Check>,
     pub n: usize,
 }
 
 // Whether a check found a line that is not as printed: FORM, which is number 1.
-fn is_form(found: Found) -> bool
+fn is_form(found: Result<(), Check>) -> bool
     ensures { result ≡ is_form (shown found) }
 {
     match found {
-        Found::Nothing => false,
-        Found::Fault(check) => tariff::number_of(check) == 1,
+        Ok(()) => false,
+        Err(check) => tariff::number_of(check) == 1,
     }
 }
 
@@ -56,26 +56,26 @@ fn fits_form(way: Way, hours: usize) -> bool
 }
 
 // What refuses a sheet, by what its header's checks found: the way comes behind FORM and in front of RANGE.
-fn fault_by(way: Way, header: Found, two: bool, hours: usize) -> Found
+fn fault_by(way: Way, header: Result<(), Check>, two: bool, hours: usize) -> Result<(), Check>
     ensures { shown result ≡ fault_by way (shown header) two hours }
 {
     if is_form(header) {
         return header;
     }
     if !goes_way(way, two) {
-        return Found::Fault(Check::Range(1));
+        return Err(Check::Range(1));
     }
-    if let Found::Fault(_) = header {
+    if let Err(_) = header {
         return header;
     }
     if !fits_form(way, hours) {
-        return Found::Fault(Check::Back);
+        return Err(Check::Back);
     }
-    Found::Nothing
+    Ok(())
 }
 
 // What refuses a sheet that is to go this way.
-fn fault_of(sheet: &[u8], way: Way) -> Found
+fn fault_of(sheet: &[u8], way: Way) -> Result<(), Check>
     ensures { shown result ≡ move_fault way sheet.now }
 {
     let header = header::read_header(sheet);
@@ -117,7 +117,7 @@ pub fn move_sheet(sheet: &[u8], way: Way, page: &mut [u8]) -> Moved
     ensures within { IsPrefixLen result.n page.new }
 {
     let found = fault_of(sheet, way);
-    if let Found::Fault(_) = found {
+    if let Err(_) = found {
         return Moved { found, n: 0 };
     }
     Moved {

@@ -1,4 +1,5 @@
 -- An hour block: line 1, the two curve lines, and up to 30 interval lines. FORM is at the first line that is not as printed.
+use Rattle.text.specs.Text.{Next}
 use Rattle.std.specs.Prelude.{List, ℕ, ℤ, pos, replicate}
 use Rattle.tariff.specs.declared.Curve.{Curve}
 use Rattle.tariff.specs.declared.DayAhead.{DayAhead}
@@ -6,7 +7,6 @@ use Rattle.tariff.specs.declared.Interval.{Interval}
 use Rattle.tariff.specs.declared.Hour.{Hour}
 use Rattle.tariff.specs.Units.{kw, price}
 use Rattle.tariff.specs.Hour.{blank}
-use Rattle.text.specs.declared.Next.{Next}
 use Rattle.keys.specs.Keys.{AHEAD, INTERVAL}
 use Rattle.lines.specs.Series.{Series}
 use Rattle.curves.specs.CurveLine.{no_curve}

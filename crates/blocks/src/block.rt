@@ -4,7 +4,6 @@ ghost use Rattle.blocks.specs.Block.{broken, block_at, hour_read_of};
 
 use crate::{BlockRead, series};
 use tariff::{Curve, DayAhead, Hour, Kw, Price};
-use text::Next;
 
 // A block whose line is not as printed: no record goes with it.
 pub fn broken_block(line: usize) -> BlockRead
@@ -47,17 +46,17 @@ pub fn read_block(s: &[u8], at: usize) -> BlockRead
     let first = lines::fields_at(s, at, keys::AHEAD, 10);
     let v = first.values;
     let fields = first.next;
-    let Next::At(p1) = lines::line_end(s, fields) else {
+    let Some(p1) = lines::line_end(s, fields) else {
         return broken_block(1);
     };
     let da = curves::curve_at(s, p1, false);
     let da_next = da.next;
-    let Next::At(p2) = da_next else {
+    let Some(p2) = da_next else {
         return broken_block(2);
     };
     let rt = curves::curve_at(s, p2, true);
     let rt_next = rt.next;
-    let Next::At(p3) = rt_next else {
+    let Some(p3) = rt_next else {
         return broken_block(3);
     };
     let series = series::series_at(s, p3);

@@ -2,7 +2,6 @@
 ghost use Rattle.blocks.specs.Told.{SeriesReadAt};
 
 use tariff::Interval;
-use text::Next;
 
 // The interval lines of a block: `broken` is the first line that is not as printed, or 0.
 #[derive(Clone, Copy)]
@@ -25,7 +24,7 @@ pub fn series_at(s: &[u8], at: usize) -> SeriesRead
         }
         let fields = lines::fields_at(s, i, keys::INTERVAL, 20);
         let end = fields.next;
-        let Next::At(next) = lines::line_end(s, end) else {
+        let Some(next) = lines::line_end(s, end) else {
             return SeriesRead {
                 broken: n + 4,
                 n,

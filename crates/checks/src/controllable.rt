@@ -6,22 +6,22 @@ ghost use Rattle.tariff.specs.Checks.{form_of, range_of, seconds_of};
 ghost use Rattle.tariff.specs.Controllable.{icl_interval, icl_parts};
 
 use crate::faults;
-use tariff::{Check, Expected, Found, IclHour, Seconds};
+use tariff::{Check, Expected, IclHour, Seconds};
 
 // The first line with a number out of range. Interval i, from 0, stands on line i + 4.
-pub fn range_fault(h: IclHour, expected: Expected) -> Found
+pub fn range_fault(h: IclHour, expected: Expected) -> Result<(), Check>
     requires { form_of (icl_parts h) ≡ clear }
     ensures { shown result ≡ range_of (icl_parts h) expected }
 {
     let hours = faults::hours_around(expected);
     if !(ranges::is_hour(h.hour, hours) & ranges::icl_ahead_in_range(h.dasi, h.dasw)) {
-        return Found::Fault(Check::Range(1));
+        return Err(Check::Range(1));
     }
     if !ranges::curve_in_range(h.da) {
-        return Found::Fault(Check::Range(2));
+        return Err(Check::Range(2));
     }
     if !ranges::curve_in_range(h.rt) {
-        return Found::Fault(Check::Range(3));
+        return Err(Check::Range(3));
     }
     let n = h.n;
     let iv = h.iv;
@@ -29,14 +29,14 @@ pub fn range_fault(h: IclHour, expected: Expected) -> Found
     while i < n {
         let v = iv[i];
         if !ranges::icl_interval_in_range(v) {
-            return Found::Fault(Check::Range(i + 4));
+            return Err(Check::Range(i + 4));
         }
         i += 1;
     }
-    Found::Nothing
+    Ok(())
 }
 
-pub fn seconds_fault(h: IclHour) -> Found
+pub fn seconds_fault(h: IclHour) -> Result<(), Check>
     requires { (form_of (icl_parts h) ≡ clear) × ((i : ℕ) → i < h.n → Within 900 (icl_interval h i).s.0) }
     ensures { shown result ≡ seconds_of (icl_parts h) }
 {

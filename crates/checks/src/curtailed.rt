@@ -6,15 +6,15 @@ ghost use Rattle.tariff.specs.Reply.{shown, clear};
 ghost use Rattle.tariff.specs.Import.{curtailed, curtailed_in_range, import_form, import_range, import_order, import_seconds};
 
 use crate::faults;
-use tariff::{Check, Curtailed, Found, ImportHour, Kw, Price, Seconds};
+use tariff::{Check, Curtailed, ImportHour, Kw, Price, Seconds};
 
-pub fn form_fault(h: ImportHour) -> Found
+pub fn form_fault(h: ImportHour) -> Result<(), Check>
     ensures { shown result ≡ import_form h }
 {
     if 30 < h.n {
-        Found::Fault(Check::Form(32))
+        Err(Check::Form(32))
     } else {
-        Found::Nothing
+        Ok(())
     }
 }
 
@@ -36,12 +36,12 @@ pub fn first_in_range(hour: i64, den: Kw, dec: Price, hours: usize) -> bool
 }
 
 // The first line with a number out of range. Interval i, from 0, stands on line i + 2.
-pub fn range_fault(h: ImportHour, hours: usize) -> Found
+pub fn range_fault(h: ImportHour, hours: usize) -> Result<(), Check>
     requires { import_form h ≡ clear }
     ensures { shown result ≡ import_range hours h }
 {
     if !first_in_range(h.hour, h.den, h.dec, hours) {
-        return Found::Fault(Check::Range(1));
+        return Err(Check::Range(1));
     }
     let n = h.n;
     let iv = h.iv;
@@ -49,11 +49,11 @@ pub fn range_fault(h: ImportHour, hours: usize) -> Found
     while i < n {
         let v = iv[i];
         if !line_in_range(v) {
-            return Found::Fault(Check::Range(i + 2));
+            return Err(Check::Range(i + 2));
         }
         i += 1;
     }
-    Found::Nothing
+    Ok(())
 }
 
 // A place may be any number, and an hour below 0 is none.
@@ -66,17 +66,17 @@ pub fn is_place(hour: i64, k: usize) -> bool
     (hour as usize) == k
 }
 
-pub fn order_fault(h: ImportHour, k: usize) -> Found
+pub fn order_fault(h: ImportHour, k: usize) -> Result<(), Check>
     ensures { shown result ≡ import_order h k }
 {
     if is_place(h.hour, k) {
-        Found::Nothing
+        Ok(())
     } else {
-        Found::Fault(Check::Order)
+        Err(Check::Order)
     }
 }
 
-pub fn seconds_fault(h: ImportHour) -> Found
+pub fn seconds_fault(h: ImportHour) -> Result<(), Check>
     requires { (import_form h ≡ clear) × ((i : ℕ) → i < h.n → Within 900 (curtailed h i).s.0) }
     ensures { shown result ≡ import_seconds h }
 {

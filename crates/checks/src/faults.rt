@@ -6,21 +6,21 @@ ghost use Rattle.tariff.specs.Reply.{shown, clear, unless, ◌then◌};
 ghost use Rattle.tariff.specs.Checks.{hours_around, form_in, order_in, curves_in};
 ghost use Rattle.tariff.specs.Hour.{interval, form, range, seconds_sum};
 
-use tariff::{Check, Curve, Expected, Found, Hour, Kw, LONGEST_DAY, Seconds};
+use tariff::{Check, Curve, Expected, Hour, Kw, LONGEST_DAY, Seconds};
 
-pub fn form_fault(da: Curve, rt: Curve, n: usize) -> Found
+pub fn form_fault(da: Curve, rt: Curve, n: usize) -> Result<(), Check>
     ensures { shown result ≡ form_in da rt n }
 {
     if 12 < da.n {
-        return Found::Fault(Check::Form(2));
+        return Err(Check::Form(2));
     }
     if 12 < rt.n {
-        return Found::Fault(Check::Form(3));
+        return Err(Check::Form(3));
     }
     if 30 < n {
-        return Found::Fault(Check::Form(34));
+        return Err(Check::Form(34));
     }
-    Found::Nothing
+    Ok(())
 }
 
 // The hours of the day that a block stands in; one that stands in none may say any hour of the longest.
@@ -34,19 +34,19 @@ pub fn hours_around(expected: Expected) -> usize
 }
 
 // The first line with a number out of range. Interval i, from 0, stands on line i + 4.
-pub fn range_fault(h: Hour, expected: Expected) -> Found
+pub fn range_fault(h: Hour, expected: Expected) -> Result<(), Check>
     requires { form h ≡ clear }
     ensures { shown result ≡ range h expected }
 {
     let hours = hours_around(expected);
     if !(ranges::is_hour(h.hour, hours) & ranges::ahead_in_range(h.ahead)) {
-        return Found::Fault(Check::Range(1));
+        return Err(Check::Range(1));
     }
     if !ranges::curve_in_range(h.da) {
-        return Found::Fault(Check::Range(2));
+        return Err(Check::Range(2));
     }
     if !ranges::curve_in_range(h.rt) {
-        return Found::Fault(Check::Range(3));
+        return Err(Check::Range(3));
     }
     let n = h.n;
     let iv = h.iv;
@@ -54,11 +54,11 @@ pub fn range_fault(h: Hour, expected: Expected) -> Found
     while i < n {
         let v = iv[i];
         if !ranges::interval_in_range(v) {
-            return Found::Fault(Check::Range(i + 4));
+            return Err(Check::Range(i + 4));
         }
         i += 1;
     }
-    Found::Nothing
+    Ok(())
 }
 
 pub fn same_hour(a: i64, b: i64) -> bool
@@ -67,16 +67,16 @@ pub fn same_hour(a: i64, b: i64) -> bool
     a == b
 }
 
-pub fn order_fault(said: i64, expected: Expected) -> Found
+pub fn order_fault(said: i64, expected: Expected) -> Result<(), Check>
     ensures { shown result ≡ order_in said expected }
 {
     match expected {
-        Expected::Any => Found::Nothing,
+        Expected::Any => Ok(()),
         Expected::Says(hour, _) => {
             if same_hour(said, hour) {
-                Found::Nothing
+                Ok(())
             } else {
-                Found::Fault(Check::Order)
+                Err(Check::Order)
             }
         }
     }
@@ -111,28 +111,25 @@ pub fn curve_keeps(c: Curve) -> bool
     true
 }
 
-pub fn curve_fault(da: Curve, rt: Curve) -> Found
+pub fn curve_fault(da: Curve, rt: Curve) -> Result<(), Check>
     requires { (da.n ≤ 12) × (rt.n ≤ 12) }
     ensures { shown result ≡ curves_in da rt }
 {
     if !curve_keeps(da) {
-        return Found::Fault(Check::Curve(2));
+        return Err(Check::Curve(2));
     }
     if !curve_keeps(rt) {
-        return Found::Fault(Check::Curve(3));
+        return Err(Check::Curve(3));
     }
-    Found::Nothing
+    Ok(())
 }
 
 // Checks 3 and 4, which follow check 2 and read no interval.
-pub fn order_or_curve_fault(said: i64, da: Curve, rt: Curve, expected: Expected) -> Found
+pub fn order_or_curve_fault(said: i64, da: Curve, rt: Curve, expected: Expected) -> Result<(), Check>
     requires { (da.n ≤ 12) × (rt.n ≤ 12) }
     ensures { shown result ≡ (order_in said expected then curves_in da rt) }
 {
-    let order = order_fault(said, expected);
-    if let Found::Fault(check) = order {
-        return Found::Fault(check);
-    }
+    order_fault(said, expected)?;
     curve_fault(da, rt)
 }
 
@@ -151,17 +148,17 @@ pub fn is_an_hour(s: Seconds) -> bool
 }
 
 // Check 5, of an hour's or an import's seconds.
-pub fn sum_fault(s: Seconds) -> Found
+pub fn sum_fault(s: Seconds) -> Result<(), Check>
     ensures { shown result ≡ unless (eq_z s.0 (pos 3600)) 5 0 }
 {
     if is_an_hour(s) {
-        Found::Nothing
+        Ok(())
     } else {
-        Found::Fault(Check::Seconds)
+        Err(Check::Seconds)
     }
 }
 
-pub fn seconds_fault(h: Hour) -> Found
+pub fn seconds_fault(h: Hour) -> Result<(), Check>
     requires { (form h ≡ clear) × ((i : ℕ) → i < h.n → Within 900 (interval h i).s.0) }
     ensures { shown result ≡ seconds_sum h }
 {

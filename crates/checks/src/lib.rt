@@ -8,65 +8,38 @@ ghost use Rattle.tariff.specs.Hour.{block_fault};
 ghost use Rattle.tariff.specs.Controllable.{icl_fault};
 ghost use Rattle.tariff.specs.Import.{import_fault};
 
-use tariff::{Expected, Found, Hour, IclHour, ImportHour};
+use tariff::{Check, Expected, Hour, IclHour, ImportHour};
 
 mod controllable;
 mod curtailed;
 mod faults;
 
 // The first of the faults 1 to 5.
-pub fn block_fault(h: Hour, expected: Expected) -> Found
+pub fn block_fault(h: Hour, expected: Expected) -> Result<(), Check>
     ensures { shown result ≡ block_fault h expected }
 {
-    let form = faults::form_fault(h.da, h.rt, h.n);
-    if let Found::Fault(check) = form {
-        return Found::Fault(check);
-    }
-    let range = faults::range_fault(h, expected);
-    if let Found::Fault(check) = range {
-        return Found::Fault(check);
-    }
-    let later = faults::order_or_curve_fault(h.hour, h.da, h.rt, expected);
-    if let Found::Fault(check) = later {
-        return Found::Fault(check);
-    }
+    faults::form_fault(h.da, h.rt, h.n)?;
+    faults::range_fault(h, expected)?;
+    faults::order_or_curve_fault(h.hour, h.da, h.rt, expected)?;
     faults::seconds_fault(h)
 }
 
 // The same of an internal controllable line's hour.
-pub fn icl_fault(h: IclHour, expected: Expected) -> Found
+pub fn icl_fault(h: IclHour, expected: Expected) -> Result<(), Check>
     ensures { shown result ≡ icl_fault h expected }
 {
-    let form = faults::form_fault(h.da, h.rt, h.n);
-    if let Found::Fault(check) = form {
-        return Found::Fault(check);
-    }
-    let range = controllable::range_fault(h, expected);
-    if let Found::Fault(check) = range {
-        return Found::Fault(check);
-    }
-    let later = faults::order_or_curve_fault(h.hour, h.da, h.rt, expected);
-    if let Found::Fault(check) = later {
-        return Found::Fault(check);
-    }
+    faults::form_fault(h.da, h.rt, h.n)?;
+    controllable::range_fault(h, expected)?;
+    faults::order_or_curve_fault(h.hour, h.da, h.rt, expected)?;
     controllable::seconds_fault(h)
 }
 
 // The first of the faults 1, 2, 3 and 5 of the import's block at place k of a day of so many hours.
-pub fn import_fault(h: ImportHour, k: usize, hours: usize) -> Found
+pub fn import_fault(h: ImportHour, k: usize, hours: usize) -> Result<(), Check>
     ensures { shown result ≡ import_fault hours h k }
 {
-    let form = curtailed::form_fault(h);
-    if let Found::Fault(check) = form {
-        return Found::Fault(check);
-    }
-    let range = curtailed::range_fault(h, hours);
-    if let Found::Fault(check) = range {
-        return Found::Fault(check);
-    }
-    let order = curtailed::order_fault(h, k);
-    if let Found::Fault(check) = order {
-        return Found::Fault(check);
-    }
+    curtailed::form_fault(h)?;
+    curtailed::range_fault(h, hours)?;
+    curtailed::order_fault(h, k)?;
     curtailed::seconds_fault(h)
 }

@@ -1,4 +1,5 @@
 -- The count of a curve line, its pairs, and the line.
+use Rattle.text.specs.Text.{Next}
 use mathlib.Core.Path.{◌≡◌, refl, sym, ◌∙◌, ap}
 use mathlib.Core.Bool.{Bool, true, false}
 use mathlib.Core.List.{List}
@@ -10,7 +11,7 @@ use lib.Signed.{lt_z, le_z, non_neg}
 use mir.Syntax.{w64}
 use mir.Val.{Fits, SFits}
 use mir.Facts.{to_z-of_z}
-use Rattle.std.specs.Prelude.{if◌then◌else◌}
+use Rattle.std.specs.Prelude.{if◌then◌else◌, None, Some}
 use Rattle.exact.specs.Whole.{over}
 use Rattle.exact.proofs.Bits.{held, lt_is}
 use Rattle.exact.proofs.Parts.{arithℤ, apart, by_test}
@@ -20,8 +21,6 @@ use Rattle.tariff.specs.Units.{kw}
 use Rattle.tariff.specs.Sheet.{lies_in}
 use Rattle.tariff.proofs.Tests.{and_right}
 use Rattle.units.proofs.Signs.{natural, stays}
-use Rattle.text.specs.declared.Next.{Next}
-use Rattle.text.specs.declared.Next.TheVariants.{At, Wrong}
 use Rattle.curves.specs.declared.line.Pairs.{Pairs}
 use Rattle.curves.specs.declared.CurveRead.{CurveRead}
 use Rattle.lines.specs.Line.{and_then, after_fields, value_in, line_feed}
@@ -55,7 +54,7 @@ module _ (n : ℤ) (f : SFits w64 n) where
         (natural n f.sfits (from_zero false e)).2
 
 -- ---- a pair that is not as printed: so are all behind it
-pub pairs_break : (s : List ℕ) (at j i n : ℕ) (r : Pairs) → after_pairs j s at ≡ At i → j < n → after_pair s i ≡ Wrong → r.next ≡ Wrong
+pub pairs_break : (s : List ℕ) (at j i n : ℕ) (r : Pairs) → after_pairs j s at ≡ Some i → j < n → after_pair s i ≡ None → r.next ≡ None
     → PairsRead n s at r
 pairs_break s at j i n r e h f w =
     let all : j + 1 + (n - (j + 1)) ≡ n = omega arith in
@@ -79,14 +78,14 @@ count_many n h =
     h
 
 module _ (first : ℕ) (s : List ℕ) (at : ℕ) where
-  line_broken : (r : CurveRead) → curve_line first s at ≡ Wrong → r ≡ no_line → r ≡ line_read_at first s at
+  line_broken : (r : CurveRead) → curve_line first s at ≡ None → r ≡ no_line → r ≡ line_read_at first s at
   line_broken r e w = w ∙ rw e
 
-  pub line_headless : (r : CurveRead) → after_fields first 2 s at ≡ Wrong → r ≡ no_line → r ≡ line_read_at first s at
+  pub line_headless : (r : CurveRead) → after_fields first 2 s at ≡ None → r ≡ no_line → r ≡ line_read_at first s at
   unfolding curve_line
   line_headless r e w = line_broken r (rw e) w
 
-  module _ (i : ℕ) (e : after_fields first 2 s at ≡ At i) (n : ℕ) (count : n ≡ count_of (value_in first s at 1)) where
+  module _ (i : ℕ) (e : after_fields first 2 s at ≡ Some i) (n : ℕ) (count : n ≡ count_of (value_in first s at 1)) where
     pub line_many : (r : CurveRead) → 12 < n → r ≡ no_line → r ≡ line_read_at first s at
     unfolding curve_line
     line_many r u w = line_broken r (rw (e, count_many (value_in first s at 1) (rw count at u))) w
@@ -102,11 +101,11 @@ module _ (first : ℕ) (s : List ℕ) (at : ℕ) where
       unfolding curve_line
       ends = rw (e, lies, ← same, ← o.next) (sym f)
 
-      pub line_open : (r : CurveRead) → end ≡ Wrong → r ≡ no_line → r ≡ line_read_at first s at
+      pub line_open : (r : CurveRead) → end ≡ None → r ≡ no_line → r ≡ line_read_at first s at
       line_open r w = line_broken r (ends ∙ w)
 
-      pub line_read : (k : ℕ) → end ≡ At k → (start : ℤ) → start ≡ value_in first s at 0
-          → record { next = At k; curve = record { start = kw start; n = n; to = p.to; at = p.at } } ≡ line_read_at first s at
+      pub line_read : (k : ℕ) → end ≡ Some k → (start : ℤ) → start ≡ value_in first s at 0
+          → record { next = Some k; curve = record { start = kw start; n = n; to = p.to; at = p.at } } ≡ line_read_at first s at
       unfolding curve_said
       line_read k a start t =
           let before = went p.next (line_feed s) k (sym f ∙ a) in
@@ -116,17 +115,17 @@ module _ (first : ℕ) (s : List ℕ) (at : ℕ) where
 
 module _ (first : ℕ) (s : List ℕ) (at : ℕ) (r : CurveRead) (e : r ≡ line_read_at first s at) where
   next_is : (x : Next) (c : Curve) → (curve_read x c).next ≡ x
-  next_is (At i) c = refl
-  next_is Wrong c = refl
+  next_is (Some i) c = refl
+  next_is None c = refl
 
-  curve_is : (x : Next) (c : Curve) (i : ℕ) → (curve_read x c).next ≡ At i → (curve_read x c).curve ≡ c
-  curve_is (At j) c i a = refl
-  curve_is Wrong c i a = absurd (never_at a)
+  curve_is : (x : Next) (c : Curve) (i : ℕ) → (curve_read x c).next ≡ Some i → (curve_read x c).curve ≡ c
+  curve_is (Some j) c i a = refl
+  curve_is None c i a = absurd (never_at a)
 
   pub curve_next : r.next ≡ curve_line first s at
   curve_next = ap (λ (x : CurveRead). x.next) e ∙ next_is _ _
 
-  pub curve_said_lem : (i : ℕ) → r.next ≡ At i → r.curve ≡ curve_said first s at
+  pub curve_said_lem : (i : ℕ) → r.next ≡ Some i → r.curve ≡ curve_said first s at
   curve_said_lem i a =
       ap (λ (x : CurveRead). x.curve) e
       ∙ curve_is (curve_line first s at) _ i (ap (λ (x : CurveRead). x.next) (sym e) ∙ a)

@@ -1,4 +1,5 @@
 -- Two texts that share a curve line: it is read as the same, moved.
+use Rattle.text.specs.Text.{Next}
 use mathlib.Core.Path.{◌≡◌, ap}
 use mathlib.Core.Bool.{true}
 use mathlib.Core.List.{List}
@@ -6,7 +7,7 @@ use Prim.Native.Nat.{ℕ, ◌+◌, ◌<◌, ◌≤◌}
 use native.Mathlib.Omega.{arith}
 use lib.IntN.{ℤ, pos}
 use lib.Signed.{le_z}
-use Rattle.std.specs.Prelude.{if◌then◌else◌}
+use Rattle.std.specs.Prelude.{if◌then◌else◌, None, Some}
 use Rattle.exact.specs.Whole.{over}
 use Rattle.exact.proofs.Parts.{arithℤ, apart, by_test}
 use Rattle.exact.proofs.Sums.{up_same}
@@ -14,8 +15,6 @@ use Rattle.tariff.specs.declared.Curve.{Curve}
 use Rattle.tariff.specs.Units.{kw, price}
 use Rattle.tariff.specs.Sheet.{lies_in}
 use Rattle.tariff.proofs.Tests.{and_right}
-use Rattle.text.specs.declared.Next.{Next}
-use Rattle.text.specs.declared.Next.TheVariants.{At, Wrong}
 use Rattle.keys.specs.Keys.{key_of, PAIR}
 use Rattle.lines.specs.Line.{and_then, value_in, line_feed}
 use Rattle.curves.specs.CurveLine.{after_pair, after_pairs, end_said, price_said, end_of_pair, price_of_pair, pairs_at, curve_line, curve_from, curve_said}
@@ -26,8 +25,8 @@ use Rattle.lines.proofs.SeriesShared.{place_shared, each_shared}
 
 -- two readings of a curve line: none, or the same curve and the same place, moved
 pub data SameCurve (f g : ℕ → ℕ) (P : ℕ → Type 0) (c d : Curve) : Next → Next → Type 0 where
-  curve : (j : ℕ) → P j → c ≡ d → SameCurve f g P c d (At (f j)) (At (g j))
-  no_curve_lem : SameCurve f g P c d Wrong Wrong
+  curve : (j : ℕ) → P j → c ≡ d → SameCurve f g P c d (Some (f j)) (Some (g j))
+  no_curve_lem : SameCurve f g P c d None None
 
 with_curve : {f g : ℕ → ℕ} {P : ℕ → Type 0} {c d : Curve} {x y : Next} → c ≡ d → Placed f g P x y → SameCurve f g P c d x y
 with_curve e (both j l) = curve j l e
@@ -41,7 +40,7 @@ module _ {s t : List ℕ} {f g : ℕ → ℕ} {In Open : ℕ → ℕ → Type 0}
   pair_value : (n i : ℕ) → n < 2 → In 32 i → value_in PAIR s (f i) n ≡ value_in PAIR t (g i) n
   pair_value n i u h = values_placed o.line PAIR n 32 i (omega arith) h
 
-  curve_same : (start n : ℤ) (w i : ℕ) → over n ≤ 12 → 384 ≤ w → In w i → curve_from start n s (At (f i)) ≡ curve_from start n t (At (g i))
+  curve_same : (start n : ℤ) (w i : ℕ) → over n ≤ 12 → 384 ≤ w → In w i → curve_from start n s (Some (f i)) ≡ curve_from start n t (Some (g i))
   curve_same start n w i few u h =
       rw (
         up_same (end_of_pair s (f i)) (end_of_pair t (g i)) (over n) (λ j l.
@@ -51,12 +50,12 @@ module _ {s t : List ℕ} {f g : ℕ → ℕ} {In Open : ℕ → ℕ → Type 0}
       )
 
   curve_pairs : (start n : ℤ) (v i : ℕ) → In (v + 385) i
-      → SameCurve f g (Open v) (curve_from start n s (At (f i))) (curve_from start n t (At (g i))) (pairs_at n s (f i)) (pairs_at n t (g i))
+      → SameCurve f g (Open v) (curve_from start n s (Some (f i))) (curve_from start n t (Some (g i))) (pairs_at n s (f i)) (pairs_at n t (g i))
   curve_pairs start n v i h =
       by_test (lies_in (pos 0) (pos 12) n)
-      (λ b. SameCurve f g (Open v) (curve_from start n s (At (f i))) (curve_from start n t (At (g i)))
-      (if b then and_then (after_pairs (over n) s (f i)) (line_feed s) else Wrong)
-      (if b then and_then (after_pairs (over n) t (g i)) (line_feed t) else Wrong))
+      (λ b. SameCurve f g (Open v) (curve_from start n s (Some (f i))) (curve_from start n t (Some (g i)))
+      (if b then and_then (after_pairs (over n) s (f i)) (line_feed s) else None)
+      (if b then and_then (after_pairs (over n) t (g i)) (line_feed t) else None))
       (λ e.
       let top = and_right (le_z (pos 0) n) (le_z n (pos 12)) e in
       let few : over n ≤ 12 = omega (arithℤ, apart n) in

@@ -1,4 +1,5 @@
 -- Two block texts of one kind that differ in their curve lines only are read to records that are made of the same but for two curves.
+use Rattle.std.specs.Prelude.{None, Some}
 use mathlib.Core.Path.{◌≡◌, sym, ap, fun_ext, ◌∙◌}
 use mathlib.Core.Bool.{true}
 use mathlib.Core.List.{List, ◌++◌, append_assoc}
@@ -9,9 +10,7 @@ use lib.IntN.{ℤ}
 use lib.ListN.{length, length-append, get_or-append, get_or-eq_default}
 use lib.Seq.{get_or-append-add}
 use Rattle.tariff.specs.declared.Curve.{Curve}
-use Rattle.text.specs.Text.{byte_at}
-use Rattle.text.specs.declared.Next.{Next}
-use Rattle.text.specs.declared.Next.TheVariants.{At, Wrong}
+use Rattle.text.specs.Text.{byte_at, Next}
 use Rattle.keys.specs.Keys.{DA, RT}
 use Rattle.lines.specs.Line.{and_then, value_in, filled}
 use Rattle.lines.specs.Series.{Series, line_count, broken_line}
@@ -66,10 +65,10 @@ module _ {I H : Type 0} (k : Kind I H) (b : Bounded k) where
       rt : Curve
       same : framed_at k s 0 ≡ with_series k (value_in k.ahead s 0) da rt s behind (interval_lines k s behind)
 
-    after_curves : (v : ℕ → ℤ) (da : Curve) (a : Next) → and_then a (curve_line RT s) ≡ At behind
+    after_curves : (v : ℕ → ℤ) (da : Curve) (a : Next) → and_then a (curve_line RT s) ≡ Some behind
         → (rt : Curve) × (after_line2 k a v da s ≡ with_series k v da rt s behind (interval_lines k s behind))
-    after_curves v da (At i) e = (curve_said RT s i, rw e)
-    after_curves v da Wrong e = absurd (never_at e)
+    after_curves v da (Some i) e = (curve_said RT s i, rw e)
+    after_curves v da None e = absurd (never_at e)
 
     frame_behind : Behind
     unfolding framed_at

@@ -1,4 +1,5 @@
 -- What stands behind the empty line of a block of any kind is not read, and the end of the text closes it as the empty line does.
+use Rattle.std.specs.Prelude.{None}
 use mathlib.Core.Path.{◌≡◌, refl, sym, ap, ◌∙◌}
 use mathlib.Core.Bool.{true}
 use mathlib.Core.List.{List, [], ◌∷◌, ◌++◌, append_assoc}
@@ -8,7 +9,6 @@ use native.Mathlib.Omega.{arith}
 use lib.ListN.{take}
 use lib.Seq.{get_or-take}
 use Rattle.text.specs.Text.{byte_at}
-use Rattle.text.specs.declared.Next.TheVariants.{Wrong}
 use Rattle.keys.specs.Keys.{key_of}
 use Rattle.lines.specs.Line.{line_at}
 use Rattle.lines.specs.Pieces.{PIECE, first_piece}
@@ -22,7 +22,7 @@ use Rattle.curves.specs.Closed.{Closed, at_once, after_line}
 use Rattle.curves.proofs.FrameShared.{Bounded, frame_shared}
 
 -- no line begins at an empty line
-none_begins : (s : List ℕ) → byte_at s 0 ≡ 10 → (first count : ℕ) → opens (key_of first) ≡ true → 0 < count → line_at first count s 0 ≡ Wrong
+none_begins : (s : List ℕ) → byte_at s 0 ≡ 10 → (first count : ℕ) → opens (key_of first) ≡ true → 0 < count → line_at first count s 0 ≡ None
 none_begins s e first zero key l = absurd (not-suc-le-zero l)
 none_begins s e first (suc n) key l = line_closed s 0 (ap closing e) first n key
 

@@ -1,4 +1,5 @@
 -- Two texts that share the lines of a block of any kind: it is read as the same.
+use Rattle.text.specs.Text.{Next}
 use mathlib.Core.Path.{◌≡◌, refl}
 use mathlib.Core.Bool.{true}
 use mathlib.Core.List.{List}
@@ -7,7 +8,6 @@ use native.Mathlib.Nat.{not-suc-le-zero}
 use native.Mathlib.Omega.{arith}
 use lib.IntN.{ℤ}
 use Rattle.tariff.specs.declared.Curve.{Curve}
-use Rattle.text.specs.declared.Next.{Next}
 use Rattle.keys.specs.Keys.{key_of, DA, RT}
 use Rattle.lines.specs.Line.{value_in, line_at}
 use Rattle.lines.specs.Series.{Series, line_count, broken_line}

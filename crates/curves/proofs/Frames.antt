@@ -1,4 +1,6 @@
 -- A block of any kind, line by line as the code reads it: its first line that is not as printed, or its record.
+use Rattle.text.specs.Text.{Next}
+use Rattle.std.specs.Prelude.{None, Some}
 use mathlib.Core.Path.{◌≡◌, refl, sym, ap, ◌∙◌}
 use mathlib.Core.List.{List}
 use mathlib.Core.Logic.{◌↔◌}
@@ -9,8 +11,6 @@ use lib.IntN.{ℤ}
 use Rattle.exact.proofs.Apart.{impossible}
 use Rattle.tariff.specs.declared.Curve.{Curve}
 use Rattle.tariff.specs.Reply.{Reply, refused, FORM}
-use Rattle.text.specs.declared.Next.{Next}
-use Rattle.text.specs.declared.Next.TheVariants.{At, Wrong}
 use Rattle.keys.specs.Keys.{DA, RT}
 use Rattle.lines.specs.Line.{value_in}
 use Rattle.lines.specs.Series.{Series, line_count, broken_line}
@@ -40,21 +40,21 @@ module _ {I H : Type 0} (k : Kind I H) where
     told : {line : ℕ} {r : R} → r ≡ tell (broken line) → framed_at k s from ≡ broken line → r ≡ tell (framed_at k s from)
     told e b = e ∙ sym (ap tell b)
 
-    pub frame_line1 : (r : R) → first_line k s from ≡ Wrong → r ≡ tell (broken 1) → r ≡ tell (framed_at k s from)
+    pub frame_line1 : (r : R) → first_line k s from ≡ None → r ≡ tell (broken 1) → r ≡ tell (framed_at k s from)
     unfolding framed_at
     frame_line1 r f e = told e (rw f)
 
-    module _ (p1 : ℕ) (e1 : first_line k s from ≡ At p1) where
-      pub frame_line2 : (r : R) → curve_line DA s p1 ≡ Wrong → r ≡ tell (broken 2) → r ≡ tell (framed_at k s from)
+    module _ (p1 : ℕ) (e1 : first_line k s from ≡ Some p1) where
+      pub frame_line2 : (r : R) → curve_line DA s p1 ≡ None → r ≡ tell (broken 2) → r ≡ tell (framed_at k s from)
       unfolding framed_at
       frame_line2 r f e = told e (rw (e1, f))
 
-      module _ (p2 : ℕ) (e2 : curve_line DA s p1 ≡ At p2) where
-        pub frame_line3 : (r : R) → curve_line RT s p2 ≡ Wrong → r ≡ tell (broken 3) → r ≡ tell (framed_at k s from)
+      module _ (p2 : ℕ) (e2 : curve_line DA s p1 ≡ Some p2) where
+        pub frame_line3 : (r : R) → curve_line RT s p2 ≡ None → r ≡ tell (broken 3) → r ≡ tell (framed_at k s from)
         unfolding framed_at
         frame_line3 r f e = told e (rw (e1, e2, f))
 
-        module _ (p3 : ℕ) (e3 : curve_line RT s p2 ≡ At p3) (line n : ℕ) (iv : List I)
+        module _ (p3 : ℕ) (e3 : curve_line RT s p2 ≡ Some p3) (line n : ℕ) (iv : List I)
             (o : SeriesFound (interval_line k) 4 30 (interval_said k) k.blank s p3 line n iv) where
           pub frame_series : (r : R) → (line ≡ 0 → ⊥) → r ≡ tell (broken line) → r ≡ tell (framed_at k s from)
           unfolding framed_at
@@ -78,16 +78,16 @@ module _ {I H : Type 0} (k : Kind I H) where
       series v da rt at (broken_line line) never e = never (ap broken_line (cc))
 
       line3 : (next : Next) (v : ℕ → ℤ) (da rt : Curve) → after_line3 k next v da rt s ≡ broken 0 → ⊥
-      line3 Wrong v da rt e = let z : ◌≡◌ {A = ℕ} 3 0 = cc in omega arith
-      line3 (At at) v da rt e = series v da rt at (interval_lines k s at) (series_line (interval_line k) 4 30 s at (omega arith)) e
+      line3 None v da rt e = let z : ◌≡◌ {A = ℕ} 3 0 = cc in omega arith
+      line3 (Some at) v da rt e = series v da rt at (interval_lines k s at) (series_line (interval_line k) 4 30 s at (omega arith)) e
 
       line2 : (next : Next) (v : ℕ → ℤ) (da : Curve) → after_line2 k next v da s ≡ broken 0 → ⊥
-      line2 Wrong v da e = let z : ◌≡◌ {A = ℕ} 2 0 = cc in omega arith
-      line2 (At at) v da e = line3 (curve_line RT s at) v da (curve_said RT s at) e
+      line2 None v da e = let z : ◌≡◌ {A = ℕ} 2 0 = cc in omega arith
+      line2 (Some at) v da e = line3 (curve_line RT s at) v da (curve_said RT s at) e
 
       line1 : (next : Next) → after_line1 k next s from ≡ broken 0 → ⊥
-      line1 Wrong e = let z : ◌≡◌ {A = ℕ} 1 0 = cc in omega arith
-      line1 (At at) e = line2 (curve_line DA s at) (value_in k.ahead s from) (curve_said DA s at) e
+      line1 None e = let z : ◌≡◌ {A = ℕ} 1 0 = cc in omega arith
+      line1 (Some at) e = line2 (curve_line DA s at) (value_in k.ahead s from) (curve_said DA s at) e
 
   -- ---- what is given back says what the block is: `line` is its first line that is not as printed, or 0 where `hour` is its record
 

@@ -1,13 +1,12 @@
 -- A curve line: start, n, and n pairs. Another n than 0 to 12 is not as printed.
-use Rattle.std.specs.Prelude.{if◌then◌else◌, Bool, List, ℕ, ℤ, pos, replicate}
+use Rattle.text.specs.Text.{Next}
+use Rattle.std.specs.Prelude.{if◌then◌else◌, Bool, List, ℕ, ℤ, pos, replicate, None, Some}
 use Rattle.exact.specs.Whole.{over}
 use Rattle.tariff.specs.declared.Kw.{Kw}
 use Rattle.tariff.specs.declared.Price.{Price}
 use Rattle.tariff.specs.declared.Curve.{Curve}
 use Rattle.tariff.specs.Units.{kw, price}
 use Rattle.tariff.specs.Sheet.{lies_in}
-use Rattle.text.specs.declared.Next.{Next}
-use Rattle.text.specs.declared.Next.TheVariants.{At, Wrong}
 use Rattle.keys.specs.Keys.{DA, RT, PAIR}
 use Rattle.lines.specs.Line.{and_then, after_fields, value_in, line_feed, filled}
 use Rattle.lines.specs.Series.{series_place, series_in}
@@ -38,20 +37,20 @@ price_of_pair = series_in after_pair price_said (price (pos 0))
 -- ---- the line at a place, from key `first` on, and the curve that it says
 
 abbrev pub pairs_at : ℤ → List ℕ → ℕ → Next
-pairs_at n s at = if lies_in (pos 0) (pos 12) n then and_then (after_pairs (over n) s at) (line_feed s) else Wrong
+pairs_at n s at = if lies_in (pos 0) (pos 12) n then and_then (after_pairs (over n) s at) (line_feed s) else None
 
 unfoldable pub curve_line : (first : ℕ) → List ℕ → ℕ → Next
 curve_line first s at = and_then (after_fields first 2 s at) (pairs_at (value_in first s at 1) s)
 
 abbrev pub curve_from : ℤ → ℤ → List ℕ → Next → Curve
-curve_from start n s (At at) =
+curve_from start n s (Some at) =
     record {
       start = kw start;
       n = over n;
       to = filled (over n) 12 (end_of_pair s at) (kw (pos 0));
       at = filled (over n) 12 (price_of_pair s at) (price (pos 0));
     }
-curve_from start n s Wrong = record { start = kw start; n = 0; to = filled 0 12 (λ j. kw (pos 0)) (kw (pos 0)); at = filled 0 12 (λ j. price (pos 0)) (price (pos 0)) }
+curve_from start n s None = record { start = kw start; n = 0; to = filled 0 12 (λ j. kw (pos 0)) (kw (pos 0)); at = filled 0 12 (λ j. price (pos 0)) (price (pos 0)) }
 
 unfoldable pub curve_said : (first : ℕ) → List ℕ → ℕ → Curve
 curve_said first s at = curve_from (value_in first s at 0) (value_in first s at 1) s (after_fields first 2 s at)
@@ -62,11 +61,11 @@ abbrev pub no_curve : Curve
 no_curve = record { start = kw (pos 0); n = 0; to = replicate 12 (kw (pos 0)); at = replicate 12 (price (pos 0)) }
 
 abbrev pub no_line : CurveRead
-no_line = record { next = Wrong; curve = no_curve }
+no_line = record { next = None; curve = no_curve }
 
 abbrev pub curve_read : Next → Curve → CurveRead
-curve_read (At next) c = record { next = At next; curve = c }
-curve_read Wrong c = no_line
+curve_read (Some next) c = record { next = Some next; curve = c }
+curve_read None c = no_line
 
 abbrev pub line_read_at : (first : ℕ) → List ℕ → ℕ → CurveRead
 line_read_at first s at = curve_read (curve_line first s at) (curve_said first s at)

@@ -1,9 +1,8 @@
 -- The frame of an hour block, whatever the hour is of: line 1, the two curve lines, and up to 30 interval lines. FORM is at the first line that
 -- is not as printed.
-use Rattle.std.specs.Prelude.{List, ℕ, ℤ}
+use Rattle.text.specs.Text.{Next}
+use Rattle.std.specs.Prelude.{List, ℕ, ℤ, None, Some}
 use Rattle.tariff.specs.declared.Curve.{Curve}
-use Rattle.text.specs.declared.Next.{Next}
-use Rattle.text.specs.declared.Next.TheVariants.{At, Wrong}
 use Rattle.keys.specs.Keys.{DA, RT}
 use Rattle.lines.specs.Line.{value_in, line_at, filled}
 use Rattle.lines.specs.Series.{series_in, Series, line_count, broken_line, series_at}
@@ -55,16 +54,16 @@ with_series k v da rt s at (broken_line line) = broken line
 with_series k v da rt s at (line_count n) = read (hour_with k v da rt s at n)
 
 abbrev pub after_line3 : {I H : Type 0} → Kind I H → Next → (ℕ → ℤ) → Curve → Curve → List ℕ → Framed H
-after_line3 k Wrong v da rt s = broken 3
-after_line3 k (At at) v da rt s = with_series k v da rt s at (interval_lines k s at)
+after_line3 k None v da rt s = broken 3
+after_line3 k (Some at) v da rt s = with_series k v da rt s at (interval_lines k s at)
 
 abbrev pub after_line2 : {I H : Type 0} → Kind I H → Next → (ℕ → ℤ) → Curve → List ℕ → Framed H
-after_line2 k Wrong v da s = broken 2
-after_line2 k (At at) v da s = after_line3 k (curve_line RT s at) v da (curve_said RT s at) s
+after_line2 k None v da s = broken 2
+after_line2 k (Some at) v da s = after_line3 k (curve_line RT s at) v da (curve_said RT s at) s
 
 abbrev pub after_line1 : {I H : Type 0} → Kind I H → Next → List ℕ → ℕ → Framed H
-after_line1 k Wrong s from = broken 1
-after_line1 k (At at) s from = after_line2 k (curve_line DA s at) (value_in k.ahead s from) (curve_said DA s at) s
+after_line1 k None s from = broken 1
+after_line1 k (Some at) s from = after_line2 k (curve_line DA s at) (value_in k.ahead s from) (curve_said DA s at) s
 
 -- the block that begins at a place: read up to its first empty line or the end of the text
 unfoldable pub framed_at : {I H : Type 0} → Kind I H → List ℕ → ℕ → Framed H

@@ -5,14 +5,13 @@ ghost use Rattle.std.specs.Prelude.{◌≡◌};
 ghost use Rattle.curves.specs.CurveLine.{curve_read_at};
 
 use tariff::Curve;
-use text::Next;
 
 mod line;
 
 // The place behind a curve line, and its curve; no steps go with a line that is not as printed.
 #[derive(Clone, Copy)]
 pub struct CurveRead {
-    pub next: Next,
+    pub next: Option<usize>,
     pub curve: Curve,
 }
 

@@ -6,12 +6,11 @@ ghost use Rattle.curves.specs.Told.{count_of, PairsRead};
 
 use crate::CurveRead;
 use tariff::{Curve, Kw, Price};
-use text::Next;
 
 // The pairs of a curve line, and the place after them.
 #[derive(Clone, Copy)]
 pub struct Pairs {
-    pub next: Next,
+    pub next: Option<usize>,
     pub to: [Kw; 12],
     pub at: [Price; 12],
 }
@@ -27,9 +26,9 @@ pub fn pairs_at(s: &[u8], at: usize, n: usize) -> Pairs
     while j < n {
         let pair = lines::fields_at(s, i, keys::PAIR, 2);
         let next = pair.next;
-        let Next::At(after) = next else {
+        let Some(after) = next else {
             return Pairs {
-                next: Next::Wrong,
+                next: None,
                 to: ends,
                 at: prices,
             };
@@ -41,7 +40,7 @@ pub fn pairs_at(s: &[u8], at: usize, n: usize) -> Pairs
         j += 1;
     }
     Pairs {
-        next: Next::At(i),
+        next: Some(i),
         to: ends,
         at: prices,
     }
@@ -62,7 +61,7 @@ pub fn no_line() -> CurveRead
     ensures { result ≡ no_line }
 {
     CurveRead {
-        next: Next::Wrong,
+        next: None,
         curve: Curve {
             start: Kw(0),
             n: 0,
@@ -82,7 +81,7 @@ pub fn line_from(s: &[u8], at: usize, first: usize) -> CurveRead
     let start = Kw(v[0]);
     let n = count_of(v[1]);
     let next = head.next;
-    let Next::At(i) = next else {
+    let Some(i) = next else {
         return no_line();
     };
     if 12 < n {
@@ -90,13 +89,13 @@ pub fn line_from(s: &[u8], at: usize, first: usize) -> CurveRead
     }
     let pairs = pairs_at(s, i, n);
     let after = pairs.next;
-    let Next::At(end) = lines::line_end(s, after) else {
+    let Some(end) = lines::line_end(s, after) else {
         return no_line();
     };
     let to = pairs.to;
     let prices = pairs.at;
     CurveRead {
-        next: Next::At(end),
+        next: Some(end),
         curve: Curve {
             start,
             n,

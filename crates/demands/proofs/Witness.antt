@@ -1,5 +1,6 @@
 -- Small texts that meet the conditions of the front page, with curves that differ, and its theorems said of them: none is empty. They are
 -- specs/Small.antt's: a block with a plain curve, with another price where none is needed, and with a longer curve.
+use Rattle.std.specs.Prelude.{None}
 use mathlib.Core.Path.{◌≡◌, refl, sym, ap, ◌∙◌}
 use mathlib.Core.Bool.{true, false}
 use mathlib.Core.List.{List, [], ◌++◌}
@@ -15,7 +16,6 @@ use Rattle.tariff.specs.declared.Curve.{Curve}
 use Rattle.tariff.specs.declared.Hour.{Hour}
 use Rattle.tariff.specs.declared.Expected.{Expected}
 use Rattle.tariff.specs.declared.Expected.TheVariants.{Any, Says}
-use Rattle.tariff.specs.declared.MaybeKw.TheVariants.{Missing}
 use Rattle.tariff.specs.Point.{point_of}
 use Rattle.tariff.specs.Derate.{reduced}
 use Rattle.tariff.specs.Contributions.{limit_in}
@@ -141,7 +141,7 @@ only_2 k b =
 given : PointsGiven (hour plain_read) false
 given i m = go i m.eligible.counted m.not_given
   where
-    go : (i : ℕ) → i < 4 → (interval (hour plain_read) i).eop ≡ Missing → ⊥
+    go : (i : ℕ) → i < 4 → (interval (hour plain_read) i).eop ≡ None → ⊥
     go zero u e = impossible cc
     go (suc zero) u e = impossible cc
     go (suc (suc zero)) u e = impossible cc

@@ -1,10 +1,9 @@
 -- A small block whose four intervals leave their operating point to the real-time curve, as bytes and as its record. Its real-time curve is left
 -- open, and there are five for it.
-use Rattle.std.specs.Prelude.{List, ◌∷◌, ◌++◌, ℕ, pos, replicate}
+use Rattle.std.specs.Prelude.{List, ◌∷◌, ◌++◌, ℕ, pos, replicate, None}
 use Rattle.tariff.specs.declared.Curve.{Curve}
 use Rattle.tariff.specs.declared.Interval.{Interval}
 use Rattle.tariff.specs.declared.Hour.{Hour}
-use Rattle.tariff.specs.declared.MaybeKw.TheVariants.{Missing}
 use Rattle.tariff.specs.Units.{kw, price, move_price, seconds}
 use Rattle.tariff.specs.Hour.{blank}
 use Rattle.figures.specs.Sample.{schedules, empty_curve, one_step, two_steps}
@@ -34,10 +33,10 @@ quarter_read =
       en = kw (pos 50);
       ae = kw (pos 80);
       co = kw (pos 50);
-      eop = Missing;
+      eop = None;
       pen = price (pos 5000);
       lim = kw (pos 0);
-      uol = Missing;
+      uol = None;
       r1 = kw (pos 0);
       r2 = kw (pos 0);
       r3 = kw (pos 0);

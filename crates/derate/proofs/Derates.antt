@@ -1,4 +1,5 @@
 -- The derate step by step: the arrays that the code makes hold the schedules, the potentials and the shares of document 01.
+use Rattle.std.specs.Prelude.{None, Some}
 use mathlib.Core.Path.{◌≡◌, refl, sym, ◌∙◌, ap}
 use mathlib.Core.Bool.{Bool, true, false, ◌&&◌}
 use mathlib.Core.List.{List}
@@ -11,7 +12,6 @@ use Rattle.exact.proofs.Range.{within_lit, within_less}
 use Rattle.exact.proofs.Sums.{sum_within}
 use Rattle.exact.proofs.Tests.{and_left, and_right}
 use Rattle.tariff.specs.declared.Kw.{Kw}
-use Rattle.tariff.specs.declared.MaybeKw.TheVariants.{Missing, At}
 use Rattle.tariff.specs.declared.DayAhead.{DayAhead}
 use Rattle.tariff.specs.declared.Interval.{Interval}
 use Rattle.tariff.specs.Sheet.{is_power}
@@ -39,7 +39,7 @@ module _ (a : DayAhead) (v : Interval) where
   kept e eq = rw (e, eq)
 
   -- without a limit
-  pub derated_none : v.uol ≡ Missing → {d : List Kw} → d ≡ kw_five (day_ahead a) → answer false d ≡ derate_of a v
+  pub derated_none : v.uol ≡ None → {d : List Kw} → d ≡ kw_five (day_ahead a) → answer false d ≡ derate_of a v
   unfolding exceeds_room reduced
   derated_none h ed = kept (rw h) (rw h ed)
 
@@ -70,7 +70,7 @@ pots_small {d} {live} cd cl e = rw e (smalls _ (λ j u. (within_less (cd.close j
 
 -- ---- with a limit: the schedules, then the potentials, the reduction and the shares
 
-module _ (a : DayAhead) (v : Interval) (limit : Kw) (h : v.uol ≡ At limit) {d live : List Kw} (ed : d ≡ kw_five (day_ahead a)) (el : live ≡ kw_five (real_time v)) where
+module _ (a : DayAhead) (v : Interval) (limit : Kw) (h : v.uol ≡ Some limit) {d live : List Kw} (ed : d ≡ kw_five (day_ahead a)) (el : live ≡ kw_five (real_time v)) where
   ahead_at : kw_at d ≡ day_ahead a
   ahead_at = rw ed (kws_back (day_ahead a) (λ k. refl))
 

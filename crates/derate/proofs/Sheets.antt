@@ -1,4 +1,6 @@
 -- The figures of a day sheet are in range, and the answer is then document 01's derate: it exceeds the room, or the schedules are reduced.
+use Rattle.tariff.specs.Units.{MaybeKw}
+use Rattle.std.specs.Prelude.{None, Some}
 use mathlib.Core.Path.{◌≡◌, refl}
 use mathlib.Core.Bool.{true, false}
 use Prim.Native.Nat.{ℕ, ◌<◌}
@@ -7,8 +9,6 @@ use lib.Signed.{le_z}
 use Rattle.exact.specs.Whole.{Within}
 use Rattle.exact.proofs.Parts.{arithℤ}
 use Rattle.exact.proofs.Tests.{and_both}
-use Rattle.tariff.specs.declared.MaybeKw.{MaybeKw}
-use Rattle.tariff.specs.declared.MaybeKw.TheVariants.{Missing, At}
 use Rattle.tariff.specs.declared.DayAhead.{DayAhead}
 use Rattle.tariff.specs.declared.Interval.{Interval}
 use Rattle.tariff.specs.Sheet.{is_power, ahead_in_range, uol_in_range, interval_in_range}
@@ -27,8 +27,8 @@ are_powers_lem f h = all_of (λ j. is_power (f j)) 5 (λ j u. is_power_lem (h j 
 
 module _ (a : DayAhead) (v : Interval) (ea : ahead_in_range a ≡ true) (ev : interval_in_range v ≡ true) where
   under : (limit : MaybeKw) → uol_in_range limit ≡ true → deratable_under a v limit ≡ true
-  under Missing e = refl
-  under (At limit) e =
+  under None e = refl
+  under (Some limit) e =
       rw (are_powers_lem (day_ahead a) (ahead_within a ea), are_powers_lem (real_time v) (live_within v ev)) (is_power_lem (capacity_within {z = limit.0} e))
 
   pub sheet_deratable : deratable a v ≡ true

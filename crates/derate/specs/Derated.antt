@@ -1,7 +1,6 @@
 -- What the derate of any figures answers: those that no day sheet can have are answered as a reduction that has no room.
-use Rattle.std.specs.Prelude.{if◌then◌else◌, Bool, true, not, ◌&&◌, ◌||◌, ℕ, ℤ}
-use Rattle.tariff.specs.declared.MaybeKw.{MaybeKw}
-use Rattle.tariff.specs.declared.MaybeKw.TheVariants.{Missing, At}
+use Rattle.tariff.specs.Units.{MaybeKw}
+use Rattle.std.specs.Prelude.{if◌then◌else◌, Bool, true, not, ◌&&◌, ◌||◌, ℕ, ℤ, None, Some}
 use Rattle.tariff.specs.declared.DayAhead.{DayAhead}
 use Rattle.tariff.specs.declared.Interval.{Interval}
 use Rattle.tariff.specs.Sheet.{is_power, all_to}
@@ -15,8 +14,8 @@ are_powers f = all_to (λ j. is_power (f j)) 5
 
 -- where there is a limit, it and the schedules are in the range of power
 abbrev pub deratable_under : DayAhead → Interval → MaybeKw → Bool
-deratable_under a v Missing = true
-deratable_under a v (At limit) = are_powers (day_ahead a) && are_powers (real_time v) && is_power limit.0
+deratable_under a v None = true
+deratable_under a v (Some limit) = are_powers (day_ahead a) && are_powers (real_time v) && is_power limit.0
 
 abbrev pub deratable : DayAhead → Interval → Bool
 deratable a v = deratable_under a v v.uol

@@ -7,7 +7,7 @@ ghost use Rattle.tariff.specs.Derate.{day_ahead, real_time};
 ghost use Rattle.derate.specs.Five.{kw_five, kw_at};
 ghost use Rattle.derate.specs.Derated.{are_powers, derate_of};
 
-use tariff::{DayAhead, Interval, Kw, MaybeKw};
+use tariff::{DayAhead, Interval, Kw};
 
 mod cuts;
 mod five;
@@ -55,7 +55,7 @@ pub fn derate_of(a: DayAhead, v: Interval) -> Derated
 {
     let das = ahead_five(a);
     let uol = v.uol;
-    let MaybeKw::At(limit) = uol else {
+    let Some(limit) = uol else {
         return Derated {
             exceeds: false,
             schedules: das,

@@ -7,7 +7,7 @@ ghost use Rattle.tariff.specs.Reply.{told};
 ghost use Rattle.tariff.specs.Hour.{reply, row_after};
 ghost use Rattle.tariff.specs.Controllable.{icl_reply, icl_row_after};
 
-use tariff::{Answer, Expected, Found, Hour, IclHour};
+use tariff::{Answer, Expected, Hour, IclHour};
 
 // Settles an hour: paid, with its sum and cents and the contributions at the front of `row`, or refused, with `row` as it was.
 // Any values in any field are judged: nothing is asked of the caller.
@@ -18,7 +18,7 @@ pub fn settle(h: Hour, excluded: bool, expected: Expected, row: &mut [i64]) -> A
     let n = h.n;
     let c = intervals::work_out(h, excluded, expected);
     let found = c.found;
-    if let Found::Fault(check) = found {
+    if let Err(check) = found {
         return Answer::Refused(check);
     }
     let parts = c.parts;
@@ -33,7 +33,7 @@ pub fn settle_icl(h: IclHour, excluded: bool, expected: Expected, row: &mut [i64
     let n = h.n;
     let c = intervals::work_out_icl(h, excluded, expected);
     let found = c.found;
-    if let Found::Fault(check) = found {
+    if let Err(check) = found {
         return Answer::Refused(check);
     }
     let parts = c.parts;

@@ -1,13 +1,11 @@
 -- The hours that document 01's figures speak of, as records: what a figure does not name is 0, and an hour has four quarters.
-use Rattle.std.specs.Prelude.{◌∷◌, false, replicate, ℤ, pos, neg_ℤ}
+use Rattle.std.specs.Prelude.{◌∷◌, false, replicate, ℤ, pos, neg_ℤ, None, Some}
 use Rattle.tariff.specs.declared.Curve.{Curve}
 use Rattle.tariff.specs.declared.DayAhead.{DayAhead}
 use Rattle.tariff.specs.declared.Interval.{Interval}
 use Rattle.tariff.specs.declared.Hour.{Hour}
 use Rattle.tariff.specs.declared.MarkedDay.{MarkedDay}
-use Rattle.tariff.specs.declared.MaybeKw.{MaybeKw}
-use Rattle.tariff.specs.declared.MaybeKw.TheVariants.{Missing, At}
-use Rattle.tariff.specs.Units.{kw, price, move_price, seconds}
+use Rattle.tariff.specs.Units.{kw, price, move_price, seconds, MaybeKw}
 use Rattle.tariff.specs.Hour.{blank}
 
 -- ---- the parts of an hour
@@ -49,7 +47,7 @@ quarter en ae co eop pen lim uol r1 mv pmv bmv =
       en = kw en;
       ae = kw ae;
       co = kw co;
-      eop = At (kw eop);
+      eop = Some (kw eop);
       pen = price pen;
       lim = kw lim;
       uol = uol;
@@ -69,7 +67,7 @@ quarter en ae co eop pen lim uol r1 mv pmv bmv =
 
 -- an interval of energy alone; and one without energy, whose output of 1 kW is above its limit
 abbrev pub energy_quarter : (en ae co eop pen lim : ℤ) → Interval
-energy_quarter en ae co eop pen lim = quarter en ae co eop pen lim Missing (pos 0) (pos 0) (pos 0) (pos 0)
+energy_quarter en ae co eop pen lim = quarter en ae co eop pen lim None (pos 0) (pos 0) (pos 0) (pos 0)
 
 abbrev pub idle_quarter : MaybeKw → (r1 mv pmv bmv : ℤ) → Interval
 idle_quarter = quarter (pos 0) (pos 1) (pos 0) (pos 0) (pos 0) (pos 0)
@@ -106,7 +104,7 @@ withdrawing =
 
 -- P7
 abbrev pub moving : Hour
-moving = steady (schedules (pos 0) (pos 0) (pos 0)) empty_curve empty_curve (idle_quarter Missing (pos 0) (pos 2000) (pos 30) (pos 10))
+moving = steady (schedules (pos 0) (pos 0) (pos 0)) empty_curve empty_curve (idle_quarter None (pos 0) (pos 2000) (pos 30) (pos 10))
 
 -- P9: the limit takes 10000 kW off; and it takes all off, with a kilowatt of reserve that real time has as well
 abbrev pub derating : Hour
@@ -115,7 +113,7 @@ derating =
     (schedules (pos 20000) (pos 10000) (pos 0))
     empty_curve
     empty_curve
-    (idle_quarter (At (kw (pos 20000))) (pos 0) (pos 0) (pos 0) (pos 0))
+    (idle_quarter (Some (kw (pos 20000))) (pos 0) (pos 0) (pos 0) (pos 0))
 
 abbrev pub over_derated : Hour
 over_derated =
@@ -123,7 +121,7 @@ over_derated =
     (schedules (pos 20000) (pos 10000) (pos 1))
     empty_curve
     empty_curve
-    (idle_quarter (At (kw (pos 0))) (pos 1) (pos 0) (pos 0) (pos 0))
+    (idle_quarter (Some (kw (pos 0))) (pos 1) (pos 0) (pos 0) (pos 0))
 
 -- P10: a day of 24 hours, category (i) everywhere, and x4 at hour 5 alone
 abbrev pub marked : MarkedDay

@@ -1,13 +1,11 @@
 -- Document 01's "Figures to prove" in one table, P8 as document 02's No. 6 amends it: what the definitions compute beside what the papers
 -- print. That the two agree is claimed and proved in proofs/.
-use Rattle.std.specs.Prelude.{◌≡◌, false, List, [], ◌∷◌, ◌++◌, ℕ, replicate, ℤ, pos, neg_ℤ}
+use Rattle.std.specs.Prelude.{◌≡◌, false, List, [], ◌∷◌, ◌++◌, ℕ, replicate, ℤ, pos, neg_ℤ, None, Some}
 use Rattle.exact.specs.Whole.{up_to}
 use Rattle.tariff.specs.declared.DayAhead.{DayAhead}
 use Rattle.tariff.specs.declared.Hour.{Hour}
-use Rattle.tariff.specs.declared.MaybeKw.{MaybeKw}
-use Rattle.tariff.specs.declared.MaybeKw.TheVariants.{Missing, At}
 use Rattle.tariff.specs.declared.Expected.TheVariants.{Any}
-use Rattle.tariff.specs.Units.{cents_of}
+use Rattle.tariff.specs.Units.{cents_of, MaybeKw}
 use Rattle.tariff.specs.Reply.{Reply, paid, refused}
 use Rattle.tariff.specs.Eligible.{excluded, no_day}
 use Rattle.tariff.specs.Derate.{red_tot, pot_red, one, share}
@@ -54,8 +52,8 @@ whole h = replied (reply h false Any 30)
 -- ---- the derate of an hour's first interval: REDtot, the five POTRED, the five shares
 
 abbrev pub red_tot_under : DayAhead → MaybeKw → ℕ
-red_tot_under a Missing = 0
-red_tot_under a (At limit) = red_tot a limit.0
+red_tot_under a None = 0
+red_tot_under a (Some limit) = red_tot a limit.0
 
 abbrev pub red_tot_in : Hour → ℕ
 red_tot_in h = red_tot_under h.ahead (interval h 0).uol

@@ -1,4 +1,5 @@
 -- Each form: what its lines have in common with the others', and what its first lines decide.
+use Rattle.text.specs.Text.{Next}
 use mathlib.Core.Path.{◌≡◌, refl, sym, ◌∙◌, ap}
 use mathlib.Core.Bool.{Bool, true, false, false≢true}
 use mathlib.Core.List.{List}
@@ -12,7 +13,6 @@ use Rattle.tariff.specs.Sheet.{is_count, all_to, lies_in}
 use Rattle.tariff.specs.Reply.{RANGE, clear}
 use Rattle.tariff.proofs.Checks.{then_clear}
 use Rattle.tariff.proofs.Tests.{all_at, and_left, and_right}
-use Rattle.text.specs.declared.Next.{Next}
 use Rattle.keys.specs.Keys.{HOURS_LINE, UNIT_LINE, RTC_LINE, CAT_LINE, X1_LINE, X2_LINE, X3_LINE, X4_LINE, X5_LINE, X6_LINE, MARK_LINE}
 use Rattle.lines.specs.Line.{place_in}
 use Rattle.header.specs.declared.layout.Form.{Form}

@@ -1,5 +1,7 @@
 -- Two texts of one layout and count whose headers' lines stand in both or in neither and say the same: they are judged as the same, and say the
 -- same marks. A layout is any list of lines.
+use Rattle.text.specs.Text.{Next}
+use Rattle.std.specs.Prelude.{None}
 use mathlib.Core.Path.{◌≡◌, refl, sym, ◌∙◌, ap, subst}
 use mathlib.Core.Bool.{Bool, true, false≢true}
 use mathlib.Core.List.{List, ◌++◌}
@@ -15,8 +17,6 @@ use Rattle.tariff.specs.Eligible.{marked}
 use Rattle.tariff.specs.Reply.{FORM, RANGE, Verdict, clear, fault, unless, ◌then◌}
 use Rattle.tariff.proofs.Checks.{first_same}
 use Rattle.tariff.proofs.Tests.{all_same}
-use Rattle.text.specs.declared.Next.{Next}
-use Rattle.text.specs.declared.Next.TheVariants.{Wrong}
 use Rattle.keys.specs.Keys.{RTC_LINE, CAT_LINE, X1_LINE, X2_LINE, X3_LINE, X4_LINE, X5_LINE, X6_LINE}
 use Rattle.lines.specs.Line.{is_at, and_then}
 use Rattle.marks.proofs.Rows.{word_same}
@@ -36,7 +36,7 @@ SaysSame hours (Run key) s t x y = Unit {0}
 SaysSame hours Close s t x y = Unit {0}
 
 -- where it stands in neither
-pub nothing_said : (hours : ℕ) (line : Line) (s t : List ℕ) → SaysSame hours line s t Wrong Wrong
+pub nothing_said : (hours : ℕ) (line : Line) (s t : List ℕ) → SaysSame hours line s t None None
 nothing_said hours (Number key least most) s t = refl
 nothing_said hours (Row key admitted) s t = λ printed. absurd (false≢true printed)
 nothing_said hours (Run key) s t = tt

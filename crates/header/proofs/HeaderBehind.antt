@@ -1,4 +1,5 @@
 -- Behind a header without fault stands what stands behind the first empty line of its text.
+use Rattle.std.specs.Prelude.{None, Some}
 use mathlib.Core.Path.{◌≡◌, refl, sym, ◌∙◌, ap}
 use mathlib.Core.Bool.{Bool, true, false, ◌&&◌, false≢true}
 use mathlib.Core.List.{List}
@@ -11,9 +12,7 @@ use lib.ListN.{drop, length}
 use Rattle.tariff.specs.Sheet.{LONGEST_DAY, is_count, all_to}
 use Rattle.tariff.specs.Reply.{clear}
 use Rattle.tariff.proofs.Tests.{all_at, and_left, and_right}
-use Rattle.text.specs.Text.{byte_at}
-use Rattle.text.specs.declared.Next.{Next}
-use Rattle.text.specs.declared.Next.TheVariants.{At, Wrong}
+use Rattle.text.specs.Text.{byte_at, Next}
 use Rattle.keys.specs.Keys.{KEYS, keys, key_of}
 use Rattle.lines.specs.Line.{line_feed}
 use Rattle.lines.specs.Cut.{empty_in, behind}
@@ -42,7 +41,7 @@ opens_line Close = false
 pub key_opens : (key : ℕ) → ltb key KEYS ≡ true → opens (key_of key) ≡ true
 key_opens key e = table_at opens keys key (ltb-true key KEYS e) refl
 
-pub line_closed : (hours : ℕ) (line : Line) (s : List ℕ) (at : ℕ) → opens_line line ≡ true → closing (byte_at s at) ≡ true → header_line hours line s at ≡ Wrong
+pub line_closed : (hours : ℕ) (line : Line) (s : List ℕ) (at : ℕ) → opens_line line ≡ true → closing (byte_at s at) ≡ true → header_line hours line s at ≡ None
 unfolding header_line said_at row_at
 line_closed hours (Number key least most) s at o c = rw (fields_closed s at c key 0 (key_opens key o))
 line_closed hours (Row key admitted) s at o c = rw (key_closed s at c (key_of key) (key_opens key o))
@@ -122,16 +121,16 @@ module _ (layout : List Line) (o : Closed layout) (hours : ℕ) (s : List ℕ) (
   lines_passed (suc j) u = lines_passed j (omega arith) ∙ line_passed j (omega arith)
 
   -- the closing one is a line feed alone
-  close_read : line_feed s (start o.last) ≡ At (start (suc o.last))
+  close_read : line_feed s (start o.last) ≡ Some (start (suc o.last))
   close_read = sym (close_line hours s _ o.close) ∙ line_read layout hours s e o.last (let l = o.long in omega arith)
 
-  first_empty : empty_in true s 0 ≡ At (start (length layout))
+  first_empty : empty_in true s 0 ≡ Some (start (length layout))
   unfolding from line_place
   first_empty = rw o.long (lines_passed o.last (omega arith) ∙ feed_empty s _ _ close_read)
 
 -- ---- a header of a form
 module _ (form : Form) (s : List ℕ) (e : fault_in form s ≡ clear) where
-  pub ends_empty_lem : empty_in true s 0 ≡ At (next_in form (fault_in form s) s)
+  pub ends_empty_lem : empty_in true s 0 ≡ Some (next_in form (fault_in form s) s)
   ends_empty_lem =
       rw e (first_empty (layout_in form s) (layout_closed form (is_count (count_by form s))) (hours_in form s) s (form_clear (layout_in form s) (hours_in form s) s e))
 

@@ -1,5 +1,6 @@
 -- Two headers of different layouts whose lines are the same from `unit` on, over texts that are the same from that line on: where the one is as printed
 -- and in range so is the other, they say the same marks, and the same stands behind them.
+use Rattle.std.specs.Prelude.{Some}
 use mathlib.Core.Path.{◌≡◌, refl, sym, ◌∙◌, ap, subst}
 use mathlib.Core.Bool.{Bool, true, false≢true}
 use mathlib.Core.List.{List}
@@ -13,9 +14,7 @@ use lib.ListN.{length, drop}
 use lib.Seq.{drop-drop}
 use Rattle.tariff.specs.Reply.{FORM, RANGE, clear, unless}
 use Rattle.tariff.proofs.Checks.{clear_first}
-use Rattle.text.specs.Text.{byte_at}
-use Rattle.text.specs.declared.Next.{Next}
-use Rattle.text.specs.declared.Next.TheVariants.{At}
+use Rattle.text.specs.Text.{byte_at, Next}
 use Rattle.keys.specs.Keys.{UNIT_LINE}
 use Rattle.lines.specs.Line.{is_at, place_in, and_then}
 use Rattle.lines.proofs.Along.{Placed, both, neither, moved_then, Stretch}
@@ -40,8 +39,8 @@ pub record Beside (hours : ℕ) (L M : List Line) (s t : List ℕ) : Type 0 wher
   pub b : ℕ
   pub lines_s : UnitBehind L d
   pub lines_t : UnitBehind M e
-  pub begins_s : line_place L hours d s ≡ At a
-  pub begins_t : line_place M hours e t ≡ At b
+  pub begins_s : line_place L hours d s ≡ Some a
+  pub begins_t : line_place M hours e t ≡ Some b
   pub bytes : (i : ℕ) → byte_at s (a + i) ≡ byte_at t (b + i)
 
 module _ {hours : ℕ} {L M : List Line} {s t : List ℕ} (o : Beside hours L M s t) where
@@ -82,7 +81,7 @@ module _ {hours : ℕ} {L M : List Line} {s t : List ℕ} (o : Beside hours L M 
 
   places : (j : ℕ) → Pair (one j) (other j)
   unfolding line_place
-  places zero = let first : Pair (At (a + 0)) (At (b + 0)) = both 0 tt in rw (add-zero d, add-zero e, o.begins_s, o.begins_t) (rw (add-zero a, add-zero b) at first)
+  places zero = let first : Pair (Some (a + 0)) (Some (b + 0)) = both 0 tt in rw (add-zero d, add-zero e, o.begins_s, o.begins_t) (rw (add-zero a, add-zero b) at first)
   places (suc j) =
       rw (add-suc d j, add-suc e j, ← same_line j)
       (moved_then (header_line hours (line_in L (d + j)) s) (header_line hours (line_in L (d + j)) t) (places j) (λ i m. line_beside (line_in L (d + j)) i))

@@ -1,5 +1,6 @@
 -- What the count of a day's hours decides of its header: every form but 2 is a usual day's, a count that no day has is RANGE at its line, and a
 -- header that is read has a day's.
+use Rattle.std.specs.Prelude.{Some}
 use mathlib.Core.Path.{◌≡◌, sym, ap, ◌∙◌}
 use mathlib.Core.Bool.{Bool, true, false, false≢true}
 use mathlib.Core.List.{List}
@@ -11,7 +12,6 @@ use lib.ListN.{length}
 use Rattle.exact.proofs.Parts.{eq_z-true}
 use Rattle.tariff.specs.Sheet.{USUAL_DAY, is_count, lies_in}
 use Rattle.tariff.specs.Reply.{RANGE, Verdict, clear, fault, ◌then◌}
-use Rattle.text.specs.declared.Next.TheVariants.{At}
 use Rattle.keys.specs.Keys.{FORM_LINE}
 use Rattle.header.specs.declared.layout.Form.{Form}
 use Rattle.header.specs.declared.layout.Form.TheVariants.{One, Two, Icl}
@@ -60,7 +60,7 @@ module _ (s : List ℕ) where
   unfolding line_in_range line_place
   another_count_is_range two another =
       refused_at_2 (form_of s) s (form_apart (form_of s) (rw two))
-      (rw two (ap (lies_in (pos 2) (pos 2)) (eq_z-true (number_from FORM_LINE s (At 0)) (pos 2) two)))
+      (rw two (ap (lies_in (pos 2) (pos 2)) (eq_z-true (number_from FORM_LINE s (Some 0)) (pos 2) two)))
       another
 
   pub a_header_that_is_read_has_a_count : header_fault s ≡ clear → is_count (count_of s) ≡ true

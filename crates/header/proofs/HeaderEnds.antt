@@ -1,4 +1,5 @@
 -- Where a header's lines end: each at the first line feed behind its place. So each line of a header without fault has its place and its end.
+use Rattle.std.specs.Prelude.{None, Some}
 use mathlib.Core.Path.{◌≡◌, refl, sym, ◌∙◌, ap}
 use mathlib.Core.Bool.{true}
 use mathlib.Core.List.{List, []}
@@ -8,9 +9,7 @@ use native.Mathlib.Omega.{arith}
 use lib.ListN.{length, drop, length-drop, get_or-eq_default}
 use Rattle.tariff.specs.Reply.{Verdict, clear, fault}
 use Rattle.tariff.proofs.Checks.{then_clear}
-use Rattle.text.specs.Text.{byte_at}
-use Rattle.text.specs.declared.Next.{Next}
-use Rattle.text.specs.declared.Next.TheVariants.{At, Wrong}
+use Rattle.text.specs.Text.{byte_at, Next}
 use Rattle.lines.specs.Line.{place_in, and_then, line_feed}
 use Rattle.lines.proofs.Along.{closing, Along, Moved, both, neither, never_at, went, stretch}
 use Rattle.lines.proofs.Ended.{feed_ends, feed_inside}
@@ -35,20 +34,20 @@ pub record LineEnds (s : List ℕ) (i k : ℕ) : Type 0 where
   pub first : (m : ℕ) → closing (byte_at s (i + m)) ≡ true → long ≤ m
 
 module _ (hours : ℕ) (line : Line) (s : List ℕ) (i : ℕ) where
-  said_within : (m x : ℕ) → closing (byte_at s (i + m)) ≡ true → said_at hours line s i ≡ At x → (i ≤ x) × (x ≤ i + m)
+  said_within : (m x : ℕ) → closing (byte_at s (i + m)) ≡ true → said_at hours line s i ≡ Some x → (i ≤ x) × (x ≤ i + m)
   said_within m x c e =
       let itself : Along s s i i m = record { same = λ a l. refl; stop = c } in
-      let from : said_at hours line s (i + 0) ≡ At x = rw add-zero e in
+      let from : said_at hours line s (i + 0) ≡ Some x = rw add-zero e in
       go (said_placed (stretch itself) hours line 0 (width_of hours line s) 0 (omega arith) (omega arith)) from
     where
-      go : {a b : Next} → Moved i i m a b → a ≡ At x → (i ≤ x) × (x ≤ i + m)
+      go : {a b : Next} → Moved i i m a b → a ≡ Some x → (i ≤ x) × (x ≤ i + m)
       go (both d l) e = let same : i + d ≡ x = cc in (omega arith, omega arith)
       go neither e = absurd (never_at e)
 
   past_closes : closing (byte_at s (i + length s)) ≡ true
   past_closes = ap closing (get_or-eq_default s 256 {n = i + length s} (omega arith))
 
-  pub line_ends : (k : ℕ) → header_line hours line s i ≡ At k → LineEnds s i k
+  pub line_ends : (k : ℕ) → header_line hours line s i ≡ Some k → LineEnds s i k
   unfolding header_line
   line_ends k e =
       let front = went (said_at hours line s i) (line_feed s) k e in
@@ -65,12 +64,12 @@ module _ (hours : ℕ) (line : Line) (s : List ℕ) (i : ℕ) where
 
 -- ---- a header with each line as printed
 module _ (layout : List Line) (hours : ℕ) (s : List ℕ) (e : layout_form layout hours s ≡ clear) where
-  pub form_start : (j : ℕ) → j ≤ length layout → line_place layout hours j s ≡ At (start_of layout hours s j)
+  pub form_start : (j : ℕ) → j ≤ length layout → line_place layout hours j s ≡ Some (start_of layout hours s j)
   unfolding line_place
   form_start zero u = refl
   form_start (suc j) u = is_at_lem (line_place layout hours (suc j) s) (form_line layout hours s e j (omega arith))
 
-  pub line_read : (j : ℕ) → j < length layout → header_line hours (line_in layout j) s (start_of layout hours s j) ≡ At (start_of layout hours s (suc j))
+  pub line_read : (j : ℕ) → j < length layout → header_line hours (line_in layout j) s (start_of layout hours s j) ≡ Some (start_of layout hours s (suc j))
   unfolding line_place
   line_read j u =
       ap (λ (x : Next). and_then x (header_line hours (line_in layout j) s)) (sym (form_start j (omega arith))) ∙ form_start (suc j) (omega arith)
@@ -96,8 +95,8 @@ places_inside layout hours s zero = omega arith
 places_inside layout hours s (suc j) = go (line_place layout hours j s)
   where
     go : (x : Next) → place_in (and_then x (header_line hours (line_in layout j) s)) ≤ length s
-    go (At i) = feed_inside s (said_at hours (line_in layout j) s i)
-    go Wrong = omega arith
+    go (Some i) = feed_inside s (said_at hours (line_in layout j) s i)
+    go None = omega arith
 
 pub inside : (form : Form) (v : Verdict) (s : List ℕ) → next_in form v s ≤ length s
 inside form clear s = places_inside (layout_in form s) (hours_in form s) s (length (layout_in form s))

@@ -1,13 +1,12 @@
 -- A header is judged as its own bytes alone are: up to the first empty line, whatever follows.
+use Rattle.std.specs.Prelude.{Some}
 use mathlib.Core.Path.{◌≡◌, sym, ◌∙◌, ap}
 use mathlib.Core.Bool.{true, false≢true}
 use mathlib.Core.List.{List}
 use Prim.Native.Nat.{ℕ, ◌+◌, ◌≤◌, ◌<◌}
 use native.Mathlib.Omega.{arith}
 use borrow.Author.Tests.{eq-eqb}
-use Rattle.text.specs.Text.{byte_at, key_at}
-use Rattle.text.specs.declared.Next.{Next}
-use Rattle.text.specs.declared.Next.TheVariants.{At}
+use Rattle.text.specs.Text.{byte_at, key_at, Next}
 use Rattle.lines.specs.Line.{is_at, line_feed}
 use Rattle.lines.specs.Pieces.{first_piece}
 use Rattle.lines.proofs.Along.{closing, Along, Moved, both, neither, unmoved, stretch}
@@ -45,7 +44,7 @@ module _ (layout : List Line) (o : Closed layout) (hours : ℕ) (s t : List ℕ)
   feed_within : {p q : ℕ} → Shared (m + 1) p q → is_at (line_feed s p) ≡ is_at (line_feed t q)
   feed_within (shared i l) = ap is_at (unmoved (feed_along next i l))
 
-  says_within : (this : Line) {p q : ℕ} → Shared (m + 1) p q → SaysSame hours this s t (At p) (At q)
+  says_within : (this : Line) {p q : ℕ} → Shared (m + 1) p q → SaysSame hours this s t (Some p) (Some q)
   says_within this (shared i l) = says_placed (stretch next) hours this (width_of hours this s) i (omega arith) l
 
   lines_alike : Alike layout hours s t
@@ -62,7 +61,7 @@ module _ (layout : List Line) (o : Closed layout) (hours : ℕ) (s t : List ℕ)
 abbrev Fed : (s t : List ℕ) → ℕ → ℕ → Type 0
 Fed s t p q = (byte_at s p ≡ 10) × (byte_at t q ≡ 10)
 
-says_closed : (hours : ℕ) (line : Line) (s t : List ℕ) (p q : ℕ) → opens_line line ≡ true → Fed s t p q → SaysSame hours line s t (At p) (At q)
+says_closed : (hours : ℕ) (line : Line) (s t : List ℕ) (p q : ℕ) → opens_line line ≡ true → Fed s t p q → SaysSame hours line s t (Some p) (Some q)
 says_closed hours (Number key least most) s t p q o r =
     values_closed s p (ap closing r.0) key 0 (key_opens key o) ∙ sym (values_closed t q (ap closing r.1) key 0 (key_opens key o))
 says_closed hours (Row key admitted) s t p q o r =

@@ -1,4 +1,5 @@
 -- The lines of a header and their places, one by one as the code reads them. A layout is any list of lines.
+use Rattle.std.specs.Prelude.{None, Some}
 use mathlib.Core.Path.{◌≡◌, refl, sym, ◌∙◌, ap}
 use mathlib.Core.Bool.{Bool, true, false, ◌&&◌, false≢true}
 use mathlib.Core.List.{List, [], ◌∷◌}
@@ -14,9 +15,7 @@ use Rattle.exact.specs.Whole.{up_to}
 use Rattle.exact.proofs.Tests.{and_left, and_right}
 use Rattle.tariff.specs.Reply.{FORM, RANGE, Verdict, clear, fault, unless, first_of}
 use Rattle.tariff.proofs.Checks.{unless_clear, first_clear, clear_first, fault_first}
-use Rattle.text.specs.declared.Next.{Next}
-use Rattle.text.specs.declared.Next.TheVariants.{At, Wrong}
-use Rattle.text.specs.Text.{key_at}
+use Rattle.text.specs.Text.{key_at, Next}
 use Rattle.keys.specs.Keys.{KEYS, key_of}
 use Rattle.lines.specs.declared.Fields.{Fields}
 use Rattle.lines.specs.Line.{is_at, place_in, and_then, filled, fields_at, line_feed}
@@ -28,18 +27,18 @@ use Rattle.header.specs.Layout.{line_in, digits_at, row_at, behind_run, said_at,
 use Rattle.header.specs.Places.{is_keyed, Stands, Placed, refused_at}
 
 -- ---- a place that is found
-pub is_at_lem : (x : Next) → is_at x ≡ true → x ≡ At (place_in x)
-is_at_lem (At i) e = refl
-is_at_lem Wrong e = absurd (false≢true e)
+pub is_at_lem : (x : Next) → is_at x ≡ true → x ≡ Some (place_in x)
+is_at_lem (Some i) e = refl
+is_at_lem None e = absurd (false≢true e)
 
 -- and one behind it
 pub is_at_first : (x : Next) (f : ℕ → Next) → is_at (and_then x f) ≡ true → is_at x ≡ true
-is_at_first (At i) f e = refl
-is_at_first Wrong f e = e
+is_at_first (Some i) f e = refl
+is_at_first None f e = e
 
 pub is_at_then : (x : Next) (f : ℕ → Next) → is_at (and_then x f) ≡ true → is_at (f (place_in x)) ≡ true
-is_at_then (At i) f e = e
-is_at_then Wrong f e = absurd (false≢true e)
+is_at_then (Some i) f e = e
+is_at_then None f e = absurd (false≢true e)
 
 -- ---- a line at a place, by what it holds
 pub keyed_below : {line : Line} {key : ℕ} {least most : ℤ} → line ≡ Number key least most → is_keyed line ≡ true → key < KEYS
@@ -109,7 +108,7 @@ module _ (layout : List Line) (hours : ℕ) (s : List ℕ) where
   -- j lines are read, up to the place i, into an array with room for so many places
   pub record PlacedTo (room : ℕ) (at : List ℕ) (i j : ℕ) : Type 0 where
     pub few : j ≤ length layout
-    pub place : line_place layout hours j s ≡ At i
+    pub place : line_place layout hours j s ≡ Some i
     pub places : at ≡ filled (j + 1) room start_of 0
 
   pub places_begin : (room : ℕ) → PlacedTo (suc room) (replicate (suc room) 0) 0 0
@@ -126,7 +125,7 @@ module _ (layout : List Line) (hours : ℕ) (s : List ℕ) where
       unfolding line_place
       line_next = rw (o.place, is)
 
-      pub places_next : (next : ℕ) → header_line hours line s i ≡ At next → PlacedTo room (set at (j + 1) next) next (j + 1)
+      pub places_next : (next : ℕ) → header_line hours line s i ≡ Some next → PlacedTo room (set at (j + 1) next) next (j + 1)
       places_next next e =
           let here = line_next ∙ e in
           record {
@@ -135,7 +134,7 @@ module _ (layout : List Line) (hours : ℕ) (s : List ℕ) where
             places = fill_next start_of 0 (j + 1) room (omega arith) o.places (sym (ap (λ (k : ℕ). start_of k) (add-one j) ∙ ap place_in here));
           }
 
-      pub line_broken : header_line hours line s i ≡ Wrong → refused_at FORM (j + 1) ≡ layout_form layout hours s
+      pub line_broken : header_line hours line s i ≡ None → refused_at FORM (j + 1) ≡ layout_form layout hours s
       unfolding layout_form
       line_broken e = refused_first is_placed FORM (length layout) j (λ k l. has_place (suc k) l) u (ap is_at (line_next ∙ e))
 
@@ -148,7 +147,7 @@ module _ (layout : List Line) (hours : ℕ) (s : List ℕ) where
       pub all_placed : Placed layout hours s at
       all_placed k v =
           is_at_lem (line_place layout hours k s) (has_place k (omega arith))
-          ∙ ap At (filled_at start_of 0 (j + 1) room k (omega arith) ∙ ap (λ (l : List ℕ). get_or l k 0) (sym o.places))
+          ∙ ap Some (filled_at start_of 0 (j + 1) room k (omega arith) ∙ ap (λ (l : List ℕ). get_or l k 0) (sym o.places))
 
 -- ---- past the closing line, which is the last, there is none but it
 pub close_past : (layout : List Line) (last j : ℕ) → length layout ≡ suc last → line_in layout last ≡ Close → last ≤ j → Close ≡ line_in layout j
@@ -176,7 +175,7 @@ module _ (layout : List Line) (hours : ℕ) (s at : List ℕ) (p : Placed layout
       let read = ap (λ (x : Next). and_then x (header_line hours (line_in layout j) s)) (sym (p j (omega arith))) ∙ p (suc j) (omega arith) in
       record { keyed = ap is_keyed is ∙ line_keyed layout j keyed; whole = rw is (ap is_at read) }
 
-  pub range_told : j < length layout → line_in_range hours line s (At (get_or at j 0)) ≡ is_in_range layout hours s j
+  pub range_told : j < length layout → line_in_range hours line s (Some (get_or at j 0)) ≡ is_in_range layout hours s j
   range_told u = rw (is, p j (omega arith))
 
 -- ---- the header: its form first, then its ranges

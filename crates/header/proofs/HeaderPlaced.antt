@@ -11,14 +11,12 @@ use borrow.Author.Tests.{ltb-true}
 use lib.Dec.{ltb}
 use lib.ListN.{length, drop, length-drop, drop_of_length-le}
 use lib.Seq.{drop-cons}
-use Rattle.std.specs.Prelude.{if◌then◌else◌}
+use Rattle.std.specs.Prelude.{if◌then◌else◌, None, Some}
 use Rattle.exact.proofs.Parts.{by_test}
 use Rattle.tariff.specs.Sheet.{all_to}
 use Rattle.tariff.proofs.Tests.{all_at}
-use Rattle.text.specs.Text.{byte_at}
+use Rattle.text.specs.Text.{byte_at, Next}
 use Rattle.text.specs.Number.{digit_of, digit_at}
-use Rattle.text.specs.declared.Next.{Next}
-use Rattle.text.specs.declared.Next.TheVariants.{At, Wrong}
 use Rattle.text.proofs.Numbers.{digit_inside}
 use Rattle.keys.specs.Keys.{key_of}
 use Rattle.lines.specs.Line.{is_at, and_then, line_feed}
@@ -97,7 +95,7 @@ module _ {s t : List ℕ} {f g : ℕ → ℕ} {In : ℕ → ℕ → Type 0} (o :
   unfolding digits_at
   digits_placed hours v w i u l = go (all_placed hours v w i u l)
     where
-      go : {a b : Bool} → Counted (In v (i + hours)) a b → Placed f g (In v) (if a then At (f i + hours) else Wrong) (if b then At (g i + hours) else Wrong)
+      go : {a b : Bool} → Counted (In v (i + hours)) a b → Placed f g (In v) (if a then Some (f i + hours) else None) (if b then Some (g i + hours) else None)
       go (counted m) = rw (← (steps hours i).0, ← (steps hours i).1) (both (i + hours) m)
       go stopped = neither
 
@@ -146,7 +144,7 @@ module _ {s t : List ℕ} {f g : ℕ → ℕ} {In : ℕ → ℕ → Type 0} (o :
     row_printed : (at : ℕ) → is_at (and_then (digits_at hours s at) (line_feed s)) ≡ true → all_to (is_digit s at) hours ≡ true
     unfolding digits_at
     row_printed at =
-        by_test (all_to (is_digit s at) hours) (λ b. is_at (and_then (if b then At (at + hours) else Wrong) (line_feed s)) ≡ true → b ≡ true)
+        by_test (all_to (is_digit s at) hours) (λ b. is_at (and_then (if b then Some (at + hours) else None) (line_feed s)) ≡ true → b ≡ true)
         (λ e p. refl)
         (λ e p. p)
 
@@ -158,7 +156,7 @@ module _ {s t : List ℕ} {f g : ℕ → ℕ} {In : ℕ → ℕ → Type 0} (o :
         let digit = ltb-true (digit_at s (f i + h)) 10 (are h (omega arith)) in
         rw next (digit_further o v (v + 1) (i + h) (omega arith) before (λ z. let here = ap (digit_at s) (steps h i).0 in omega arith))
 
-    pub says_placed : (line : Line) (w i : ℕ) → width_of hours line s ≤ w → In w i → SaysSame hours line s t (At (f i)) (At (g i))
+    pub says_placed : (line : Line) (w i : ℕ) → width_of hours line s ≤ w → In w i → SaysSame hours line s t (Some (f i)) (Some (g i))
     unfolding header_line said_at row_at
     says_placed (Number key least most) w i u l = values_placed o key 0 w i (omega arith) l
     says_placed (Row key admitted) w i u l = λ printed h m. go h m (key_placed o (key_of key) (key_printed key) hours w i (omega arith) l) printed

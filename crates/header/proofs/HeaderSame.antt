@@ -1,5 +1,7 @@
 -- Two texts whose headers are read side by side, line by line: where both have each line or neither has it, and both say the same, they have the
 -- same header, of any form.
+use Rattle.text.specs.Text.{Next}
+use Rattle.std.specs.Prelude.{None, Some}
 use mathlib.Core.Path.{◌≡◌, refl, sym, ◌∙◌, ap, subst}
 use mathlib.Core.Bool.{Bool, true, false}
 use mathlib.Core.List.{List}
@@ -12,8 +14,6 @@ use Rattle.exact.specs.Whole.{eq_z}
 use Rattle.tariff.specs.Reply.{Verdict, clear, fault}
 use Rattle.tariff.specs.Sheet.{LONGEST_DAY, is_count, hours_by}
 use Rattle.tariff.proofs.Counts.{hours_few}
-use Rattle.text.specs.declared.Next.{Next}
-use Rattle.text.specs.declared.Next.TheVariants.{At, Wrong}
 use Rattle.keys.specs.Keys.{UNIT_LINE, RTC_LINE}
 use Rattle.lines.specs.Line.{is_at, and_then, line_feed}
 use Rattle.header.specs.declared.layout.Form.{Form}
@@ -30,8 +30,8 @@ use Rattle.header.proofs.HeaderBehind.{Closed, layout_closed}
 
 -- both have a place, and R holds of the two, or neither has one
 pub data Both (R : ℕ → ℕ → Type 0) : Next → Next → Type 0 where
-  found : (p q : ℕ) → R p q → Both R (At p) (At q)
-  missed : Both R Wrong Wrong
+  found : (p q : ℕ) → R p q → Both R (Some p) (Some q)
+  missed : Both R None None
 
 both_at : {R : ℕ → ℕ → Type 0} {x y : Next} → Both R x y → is_at x ≡ is_at y
 both_at (found p q r) = refl
@@ -43,7 +43,7 @@ module _ (layout : List Line) (o : Closed layout) (hours : ℕ) (s t : List ℕ)
     pub begins : R 0 0 0
     pub goes_on : (j p q : ℕ) → j < o.last → R j p q → Both (R (suc j)) (header_line hours (line_in layout j) s p) (header_line hours (line_in layout j) t q)
     pub closes : (p q : ℕ) → R o.last p q → is_at (line_feed s p) ≡ is_at (line_feed t q)
-    pub says : (j p q : ℕ) → j < o.last → R j p q → SaysSame hours (line_in layout j) s t (At p) (At q)
+    pub says : (j p q : ℕ) → j < o.last → R j p q → SaysSame hours (line_in layout j) s t (Some p) (Some q)
 
   module _ (r : Reads) where
     places : (j : ℕ) → j ≤ o.last → Both (R j) (line_place layout hours j s) (line_place layout hours j t)

@@ -11,13 +11,11 @@ use borrow.Author.Tests.{ltb-true, eq-eqb, eqb-true, eqb-false, not-true}
 use lib.Dec.{ltb, eqb}
 use lib.ListN.{length, get_or, drop}
 use lib.Seq.{get_or-drop, drop-drop}
-use Rattle.std.specs.Prelude.{if◌then◌else◌}
+use Rattle.std.specs.Prelude.{if◌then◌else◌, None, Some}
 use Rattle.exact.proofs.Parts.{by_test}
 use Rattle.tariff.specs.Sheet.{LONGEST_DAY, all_to}
 use Rattle.tariff.proofs.Tests.{all_at}
-use Rattle.text.specs.Text.{byte_at, key_at}
-use Rattle.text.specs.declared.Next.{Next}
-use Rattle.text.specs.declared.Next.TheVariants.{At, Wrong}
+use Rattle.text.specs.Text.{byte_at, key_at, Next}
 use Rattle.keys.specs.Keys.{KEYS, keys, key_of}
 use Rattle.keys.proofs.AllKeys.{table_at}
 use Rattle.lines.specs.Line.{is_at, place_in, and_then, line_feed}
@@ -69,12 +67,12 @@ run_short others run (b ∷ t) h =
     Few x = run_of (in_line others run (b ∷ t)) + run ≤ RUN
 
 -- ---- a key that stands at a place, byte by byte
-key_read : (key s : List ℕ) (at x : ℕ) → key_at key s at ≡ At x → (at + length key ≡ x) × ((i : ℕ) → i < length key → byte_at s (at + i) ≡ get_or key i 0)
+key_read : (key s : List ℕ) (at x : ℕ) → key_at key s at ≡ Some x → (at + length key ≡ x) × ((i : ℕ) → i < length key → byte_at s (at + i) ≡ get_or key i 0)
 unfolding key_at
 key_read [] s at x = λ e. (add-zero at ∙ ap place_in e, λ i u. absurd (omega arith))
 key_read (k ∷ ks) s at x =
     by_test (eqb (byte_at s at) k)
-    (λ b. (if b then key_at ks s (at + 1) else Wrong) ≡ At x
+    (λ b. (if b then key_at ks s (at + 1) else None) ≡ Some x
     → (at + suc (length ks) ≡ x) × ((i : ℕ) → i < suc (length ks) → byte_at s (at + i) ≡ get_or (k ∷ ks) i 0))
     (λ h e. let more = key_read ks s (at + 1) x e in (omega (arith, more.0), bytes (eqb-true (byte_at s at) k h) more.1))
     (λ h e. absurd (never_at e))
@@ -125,7 +123,7 @@ module _ (others : ℕ) (s got : List ℕ) (N : ℕ) (wide : 12 * 48 ≤ N) (agr
 
     -- ---- a line that ends among them
     module _ (hours : ℕ) (line : Line) (opened : opens_line line ≡ true) (short : width_of hours line s < RUN) where
-      behind_short : (k : ℕ) → k ≤ RUN → header_line hours line s p ≡ At (p + k) → Begins (suc j) (p + k) (q + k)
+      behind_short : (k : ℕ) → k ≤ RUN → header_line hours line s p ≡ Some (p + k) → Begins (suc j) (p + k) (q + k)
       behind_short k l e =
           let ends = line_ends hours line s p (p + k) e in
           let long = ends.long in
@@ -160,12 +158,12 @@ module _ (others : ℕ) (s got : List ℕ) (N : ℕ) (wide : 12 * 48 ≤ N) (agr
       within : other + 1 ≤ suc j * 48
       within = let m = r.within in let n = run_short others 0 u (omega arith) in omega arith
 
-      run_same : behind_run got (q + k) ≡ At other
+      run_same : behind_run got (q + k) ≡ Some other
       run_same =
           let m = r.within in
           let bytes = first_bytes text got N (λ i h. sym (agree i h)) N (omega arith) in
           let short : run_of (drop (q + k) text) ≤ RUN = rw rest (let n = run_short others 0 u (omega arith) in omega arith) in
-          sym (unmoved (run_placed bytes RUN 0 (RUN + 1) (q + k) short (omega arith) (omega arith))) ∙ ap (λ (l : List ℕ). At (q + k + run_of l)) rest
+          sym (unmoved (run_placed bytes RUN 0 (RUN + 1) (q + k) short (omega arith) (omega arith))) ∙ ap (λ (l : List ℕ). Some (q + k + run_of l)) rest
 
       behind : drop other text ≡ in_line others 0 (drop one s)
       behind =
@@ -199,7 +197,7 @@ module _ (others : ℕ) (s got : List ℕ) (N : ℕ) (wide : 12 * 48 ≤ N) (agr
       unfolding key_at
       feed_next =
           rw behind_byte
-          (by_test (eqb (byte_at s one) 10) (λ b. Both (Begins (suc j)) (if b then At (one + 1) else Wrong) (if b then At (other + 1) else Wrong))
+          (by_test (eqb (byte_at s one) 10) (λ b. Both (Begins (suc j)) (if b then Some (one + 1) else None) (if b then Some (other + 1) else None))
           (λ h. found (one + 1) (other + 1) (behind_feed (eqb-true (byte_at s one) 10 h)))
           (λ h. missed))
 
@@ -209,7 +207,7 @@ module _ (others : ℕ) (s got : List ℕ) (N : ℕ) (wide : 12 * 48 ≤ N) (agr
     -- and with it
     module _ (hours key : ℕ) (opened : ltb key KEYS ≡ true) where
       -- a key has no line feed and ends in an equals sign
-      key_behind : (k : ℕ) → key_at (key_of key) s p ≡ At (p + k) → drop (q + k) text ≡ in_line others 0 (drop (p + k) s)
+      key_behind : (k : ℕ) → key_at (key_of key) s p ≡ Some (p + k) → drop (q + k) text ≡ in_line others 0 (drop (p + k) s)
       unfolding all_to
       key_behind k e =
           let word = key_of key in
@@ -249,7 +247,7 @@ module _ (others : ℕ) (s got : List ℕ) (N : ℕ) (wide : 12 * 48 ≤ N) (agr
       line_next (Run key) o e = run_next hours key o
       line_next Close o e = absurd (false≢true o)
 
-      says_next : (line : Line) → is_short line ≡ true → SaysSame hours line s got (At p) (At q)
+      says_next : (line : Line) → is_short line ≡ true → SaysSame hours line s got (Some p) (Some q)
       says_next (Number key least most) e = rw (add-zero p, add-zero q) at (says_placed window hours (Number key least most) RUN 0 (omega arith) (omega arith))
       says_next (Row key admitted) e =
           let l = row_short key e in

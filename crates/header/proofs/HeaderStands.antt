@@ -1,5 +1,6 @@
 -- A header that is not refused stands as it is in the text of which it alone is squeezed, and so does what follows it: none of its lines has a long
 -- run of digits.
+use Rattle.std.specs.Prelude.{Some}
 use mathlib.Core.Path.{◌≡◌, refl, sym, ◌∙◌, ap, subst}
 use mathlib.Core.Bool.{Bool, true, false, false≢true}
 use mathlib.Core.List.{List, ◌++◌, append_assoc}
@@ -14,9 +15,7 @@ use Rattle.tariff.specs.Sheet.{LONGEST_DAY, all_to}
 use Rattle.tariff.specs.Reply.{clear}
 use Rattle.tariff.proofs.Counts.{hours_few}
 use Rattle.tariff.proofs.Tests.{all_at}
-use Rattle.text.specs.Text.{byte_at}
-use Rattle.text.specs.declared.Next.{Next}
-use Rattle.text.specs.declared.Next.TheVariants.{At}
+use Rattle.text.specs.Text.{byte_at, Next}
 use Rattle.text.proofs.Numbers.{byte_inside}
 use Rattle.keys.specs.Keys.{key_of}
 use Rattle.lines.specs.Squeezed.{RUN, squeezed_from, squeezed}
@@ -57,12 +56,12 @@ module _ (hours : ℕ) (day : hours ≤ LONGEST_DAY) (s : List ℕ) where
     on = λ v w i u h e. omega arith;
   }
 
-  module _ (line : Line) (p k : ℕ) (fits : is_bounded line ≡ true) (read : header_line hours line s p ≡ At k) where
+  module _ (line : Line) (p k : ℕ) (fits : is_bounded line ≡ true) (read : header_line hours line s p ≡ Some k) where
     ends_soon : k ≤ p + RUN
     ends_soon =
         go (rw (add-zero p) at (line_placed (itself p) hours {Q = λ i. i ≤ RUN} line RUN 0 (bounded line fits) (omega arith) (λ i l e. omega arith))) read
       where
-        go : {x y : Next} → Placed (λ i. p + i) (λ i. p + i) (λ i. i ≤ RUN) x y → x ≡ At k → k ≤ p + RUN
+        go : {x y : Next} → Placed (λ i. p + i) (λ i. p + i) (λ i. i ≤ RUN) x y → x ≡ Some k → k ≤ p + RUN
         go (both i l) e = let same : p + i ≡ k = cc in omega arith
         go neither e = absurd (never_at e)
 

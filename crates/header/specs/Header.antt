@@ -1,13 +1,12 @@
 -- A header, a line per key. It knows FORM and RANGE only. A day's sheet has `form`, in form 2 `hours`, then `unit`, `rtc`, seven rows of marks and the
 -- closing empty line: form 1 has eleven lines and is a day of 24 hours, form 2 has twelve and says how many hours its day has. The day of an
 -- internal controllable line (ICL) has a header of its own, of four lines; what decides it is said here with the others, and what it says in IclHeader.
-use Rattle.std.specs.Prelude.{if◌then◌else◌, Bool, true, false, List, [], ◌∷◌, ℕ, suc, eqb, ℤ, pos, length}
+use Rattle.std.specs.Prelude.{if◌then◌else◌, Bool, true, false, List, [], ◌∷◌, ℕ, suc, eqb, ℤ, pos, length, Some}
 use Rattle.exact.specs.Whole.{eq_z}
 use Rattle.tariff.specs.declared.Marks.{Marks}
 use Rattle.tariff.specs.Sheet.{SHORTEST_DAY, USUAL_DAY, LONGEST_DAY, is_count, hours_by}
 use Rattle.tariff.specs.Eligible.{no_marks}
 use Rattle.tariff.specs.Reply.{Verdict, clear, fault}
-use Rattle.text.specs.declared.Next.TheVariants.{At}
 use Rattle.keys.specs.Keys.{FORM_LINE, HOURS_LINE, UNIT_LINE, RTC_LINE, CAT_LINE, X1_LINE, X2_LINE, X3_LINE, X4_LINE, X5_LINE, X6_LINE, LINE_LINE, MARK_LINE}
 use Rattle.lines.specs.Line.{place_in, filled}
 use Rattle.marks.specs.Word.{word}
@@ -95,7 +94,7 @@ next_in form (fault number place) s = 0
 -- ---- a day's sheet: the value on line 1 decides the form, where every number but 2 is form 1's
 
 abbrev pub is_form2 : List ℕ → Bool
-is_form2 s = eq_z (number_from FORM_LINE s (At 0)) (pos 2)
+is_form2 s = eq_z (number_from FORM_LINE s (Some 0)) (pos 2)
 
 abbrev pub form_by : (two : Bool) → Form
 form_by two = if two then Two else One

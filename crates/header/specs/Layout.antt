@@ -1,13 +1,11 @@
 -- A layout is a list of lines, each as data: a number behind its key, from the least to the most that it may be; a row of digits behind its key,
 -- one for each of the day's `hours`, with those that it admits; a run of digits behind its key, of any length and unjudged; and the closing
 -- empty line. What stands here is said over any layout.
-use Rattle.std.specs.Prelude.{if◌then◌else◌, Bool, true, false, List, [], ◌∷◌, ℕ, zero, suc, ◌+◌, ◌^◌, ltb, eqb, ℤ, pos, get_or, length, drop}
+use Rattle.std.specs.Prelude.{if◌then◌else◌, Bool, true, false, List, [], ◌∷◌, ℕ, zero, suc, ◌+◌, ◌^◌, ltb, eqb, ℤ, pos, get_or, length, drop, None, Some}
 use Rattle.tariff.specs.Sheet.{all_to, lies_in}
 use Rattle.tariff.specs.Eligible.{marked}
 use Rattle.tariff.specs.Reply.{FORM, RANGE, Verdict, unless, ◌then◌, first_of}
-use Rattle.text.specs.declared.Next.{Next}
-use Rattle.text.specs.declared.Next.TheVariants.{At, Wrong}
-use Rattle.text.specs.Text.{key_at}
+use Rattle.text.specs.Text.{key_at, Next}
 use Rattle.text.specs.Number.{NO_DIGIT, is_numeral, digit_at}
 use Rattle.keys.specs.Keys.{key_of}
 use Rattle.lines.specs.Line.{is_at, and_then, after_fields, value_in, line_feed}
@@ -27,7 +25,7 @@ line_in layout j = get_or layout j Close
 
 -- the digits of a row: exactly one for each hour, since what follows them is the line's end
 unfoldable pub digits_at : (hours : ℕ) → List ℕ → ℕ → Next
-digits_at hours s at = if all_to (λ h. ltb (digit_at s (at + h)) NO_DIGIT) hours then At (at + hours) else Wrong
+digits_at hours s at = if all_to (λ h. ltb (digit_at s (at + h)) NO_DIGIT) hours then Some (at + hours) else None
 
 unfoldable pub row_at : (hours key : ℕ) → List ℕ → ℕ → Next
 row_at hours key s at = and_then (key_at (key_of key) s at) (digits_at hours s)
@@ -38,14 +36,14 @@ run_of [] = 0
 run_of (b ∷ t) = if is_numeral b then suc (run_of t) else 0
 
 abbrev pub behind_run : List ℕ → ℕ → Next
-behind_run s at = At (at + run_of (drop at s))
+behind_run s at = Some (at + run_of (drop at s))
 
 -- the place behind what a line says
 unfoldable pub said_at : (hours : ℕ) → Line → List ℕ → ℕ → Next
 said_at hours (Number key least most) s at = after_fields key 1 s at
 said_at hours (Row key admitted) s at = row_at hours key s at
 said_at hours (Run key) s at = and_then (key_at (key_of key) s at) (behind_run s)
-said_at hours Close s at = At at
+said_at hours Close s at = Some at
 
 -- and behind the line
 unfoldable pub header_line : (hours : ℕ) → Line → List ℕ → ℕ → Next
@@ -53,18 +51,18 @@ header_line hours line s at = and_then (said_at hours line s at) (line_feed s)
 
 -- the place of line j; that of the line past the last is the place behind the header
 unfoldable pub line_place : List Line → (hours j : ℕ) → List ℕ → Next
-line_place layout hours zero s = At 0
+line_place layout hours zero s = Some 0
 line_place layout hours (suc j) s = and_then (line_place layout hours j s) (header_line hours (line_in layout j) s)
 
 -- ---- what a line says, from its place on
 
 abbrev pub number_from : (key : ℕ) → List ℕ → Next → ℤ
-number_from key s (At at) = value_in key s at 0
-number_from key s Wrong = pos 0
+number_from key s (Some at) = value_in key s at 0
+number_from key s None = pos 0
 
 abbrev pub digit_in : (h : ℕ) → List ℕ → Next → ℕ
-digit_in h s (At at) = digit_at s (at + h)
-digit_in h s Wrong = NO_DIGIT
+digit_in h s (Some at) = digit_at s (at + h)
+digit_in h s None = NO_DIGIT
 
 -- the digit of hour h: the first is hour 0's
 abbrev pub digit_from : (key : ℕ) → List ℕ → Next → ℕ → ℕ

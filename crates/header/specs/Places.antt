@@ -1,7 +1,6 @@
 -- The places of a header's lines, as the functions that read it hand them on.
-use Rattle.std.specs.Prelude.{◌≡◌, Bool, true, List, ℕ, ◌≤◌, ltb, eqb, get_or, length}
+use Rattle.std.specs.Prelude.{◌≡◌, Bool, true, List, ℕ, ◌≤◌, ltb, eqb, get_or, length, Some}
 use Rattle.tariff.specs.Reply.{FORM, Verdict, clear, unless, shown}
-use Rattle.text.specs.declared.Next.TheVariants.{At}
 use Rattle.keys.specs.Keys.{KEYS}
 use Rattle.lines.specs.Line.{is_at, and_then, line_feed}
 use Rattle.header.specs.declared.layout.Form.{Form}
@@ -30,7 +29,7 @@ RowStands hours key s at = is_at (and_then (row_at hours key s at) (line_feed s)
 
 -- the place of each line, all as printed, and that behind the header
 abbrev pub Placed : (layout : List Line) → (hours : ℕ) → List ℕ → List ℕ → Type 0
-Placed layout hours s at = (j : ℕ) → j ≤ length layout → line_place layout hours j s ≡ At (get_or at j 0)
+Placed layout hours s at = (j : ℕ) → j ≤ length layout → line_place layout hours j s ≡ Some (get_or at j 0)
 
 -- a check that refuses a line, from 1, or none where that is 0
 abbrev pub refused_at : (number line : ℕ) → Verdict

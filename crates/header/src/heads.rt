@@ -14,14 +14,13 @@ ghost use Rattle.header.specs.Places.{is_keyed, Stands, RowStands, Placed, refus
 
 use crate::layout::{Form, Line};
 use crate::{layout, rows};
-use tariff::{Check, Found, Marks};
-use text::Next;
+use tariff::{Check, Marks};
 
 // What a header of a form is read as: its fault or none, how many hours its day has, the place behind it, and the places of its lines, which are
 // told where it has no fault.
 #[derive(Clone, Copy)]
 pub struct Head {
-    pub found: Found,
+    pub found: Result<(), Check>,
     pub hours: usize,
     pub next: usize,
     pub at: [usize; layout::PLACES],
@@ -35,7 +34,7 @@ pub struct Places {
 }
 
 // The place behind a line.
-pub fn line_at(s: &[u8], at: usize, line: Line, hours: usize) -> Next
+pub fn line_at(s: &[u8], at: usize, line: Line, hours: usize) -> Option<usize>
     requires { is_keyed line ≡ true }
     ensures { result ≡ header_line hours line s.now at }
 {
@@ -50,7 +49,7 @@ pub fn line_at(s: &[u8], at: usize, line: Line, hours: usize) -> Next
             rows::digits_after(s, keys::key_number(s, at, key), hours),
         ),
         Line::Run(key) => lines::line_end(s, rows::run_after(s, keys::key_number(s, at, key))),
-        Line::Close => lines::line_end(s, Next::At(at)),
+        Line::Close => lines::line_end(s, Some(at)),
     }
 }
 
@@ -62,7 +61,7 @@ pub fn places_of(s: &[u8], form: Form, judged: bool, hours: usize) -> Places
     let mut i: usize = 0;
     let mut j: usize = 0;
     while j < lines {
-        let Next::At(next) = line_at(s, i, layout::line_of(form, judged, j), hours) else {
+        let Some(next) = line_at(s, i, layout::line_of(form, judged, j), hours) else {
             return Places { broken: j + 1, at };
         };
         i = next;
@@ -87,8 +86,8 @@ pub fn row_start(s: &[u8], at: usize, key: usize) -> usize
     ensures { result ≡ place_in (key_at (key_of key) s.now at) }
 {
     match keys::key_number(s, at, key) {
-        Next::At(start) => start,
-        Next::Wrong => 0,
+        Some(start) => start,
+        None => 0,
     }
 }
 
@@ -175,8 +174,8 @@ pub fn count_of(s: &[u8], form: Form) -> i64
         return tariff::USUAL_COUNT;
     }
     match line_at(s, 0, layout::line_of(form, false, 0), 0) {
-        Next::At(second) => number_of(s, second, keys::HOURS_LINE),
-        Next::Wrong => 0,
+        Some(second) => number_of(s, second, keys::HOURS_LINE),
+        None => 0,
     }
 }
 
@@ -192,7 +191,7 @@ pub fn head_of(s: &[u8], form: Form) -> Head
     let at = places.at;
     if broken != 0 {
         return Head {
-            found: Found::Fault(Check::Form(broken)),
+            found: Err(Check::Form(broken)),
             hours,
             next: 0,
             at,
@@ -201,7 +200,7 @@ pub fn head_of(s: &[u8], form: Form) -> Head
     let odd = odd_line(s, at, form, judged, hours);
     if odd != 0 {
         return Head {
-            found: Found::Fault(Check::Range(odd)),
+            found: Err(Check::Range(odd)),
             hours,
             next: 0,
             at,
@@ -209,7 +208,7 @@ pub fn head_of(s: &[u8], form: Form) -> Head
     }
     let next = at[layout::lines_of(form, judged)];
     Head {
-        found: Found::Nothing,
+        found: Ok(()),
         hours,
         next,
         at,

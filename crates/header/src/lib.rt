@@ -9,7 +9,7 @@ ghost use Rattle.header.specs.Header.{header_fault, is_form2, hours_of, unit_lin
 ghost use Rattle.header.specs.IclHeader.{icl_header_fault, icl_hours_of, icl_unmarked_under, icl_next_under};
 
 use crate::layout::Form;
-use tariff::{Found, Marks};
+use tariff::{Check, Marks};
 
 mod heads;
 mod layout;
@@ -18,7 +18,7 @@ mod rows;
 // What a header says: its fault or none, the day's marks, how many hours it has, the unit, and the line of that, from 1.
 #[derive(Clone, Copy)]
 pub struct Header {
-    pub found: Found,
+    pub found: Result<(), Check>,
     pub marks: Marks,
     pub hours: usize,
     pub unit: i64,
@@ -28,7 +28,7 @@ pub struct Header {
 // What an ICL's header says: its fault or none, the hours of its day that are not marked, how many it has, and the place behind it.
 #[derive(Clone, Copy)]
 pub struct IclHeader {
-    pub found: Found,
+    pub found: Result<(), Check>,
     pub unmarked: u32,
     pub hours: usize,
     pub next: usize,
@@ -48,7 +48,7 @@ pub fn read_header(s: &[u8]) -> Header
     let hours = head.hours;
     let unit = layout::unit_line(two);
     let line = unit + 1;
-    if let Found::Fault(_) = found {
+    if let Err(_) = found {
         return Header {
             found,
             marks: marks::no_marks(),
@@ -79,7 +79,7 @@ pub fn read_icl_header(s: &[u8]) -> IclHeader
     let found = head.found;
     let hours = head.hours;
     let next = head.next;
-    if let Found::Fault(_) = found {
+    if let Err(_) = found {
         return IclHeader {
             found,
             unmarked: rows::every_hour(hours),

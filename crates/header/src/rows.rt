@@ -8,31 +8,30 @@ ghost use Rattle.tariff.specs.Sheet.{LONGEST_DAY, all_to};
 ghost use Rattle.text.specs.declared.Next.TheVariants.{At};
 ghost use Rattle.header.specs.Layout.{digits_at, behind_run};
 
-use text::Next;
 
 // The place after a digit for each hour.
-pub fn digits_at(s: &[u8], at: usize, hours: usize) -> Next
+pub fn digits_at(s: &[u8], at: usize, hours: usize) -> Option<usize>
     ensures { result ≡ digits_at hours s.now at }
 {
     let mut i = at;
     let mut count: usize = 0;
     while count < hours {
         if text::digit_at(s, i) == 10 {
-            return Next::Wrong;
+            return None;
         }
         i += 1;
         count += 1;
     }
-    Next::At(i)
+    Some(i)
 }
 
 // The same behind a key, where that was found.
-pub fn digits_after(s: &[u8], next: Next, hours: usize) -> Next
+pub fn digits_after(s: &[u8], next: Option<usize>, hours: usize) -> Option<usize>
     ensures { result ≡ and_then next (digits_at hours s.now) }
 {
     match next {
-        Next::At(at) => digits_at(s, at, hours),
-        Next::Wrong => Next::Wrong,
+        Some(at) => digits_at(s, at, hours),
+        None => None,
     }
 }
 
@@ -51,12 +50,12 @@ pub fn run_at(s: &[u8], at: usize) -> usize
 }
 
 // The same behind a key, where that was found.
-pub fn run_after(s: &[u8], next: Next) -> Next
+pub fn run_after(s: &[u8], next: Option<usize>) -> Option<usize>
     ensures { result ≡ and_then next (behind_run s.now) }
 {
     match next {
-        Next::At(at) => Next::At(run_at(s, at)),
-        Next::Wrong => Next::Wrong,
+        Some(at) => Some(run_at(s, at)),
+        None => None,
     }
 }
 

@@ -1,11 +1,11 @@
 -- An hour block of an internal controllable line: its schedules in line 1, the two curve lines of a generator's block, and up to 30 interval
 -- lines. FORM is at the first line that is not as printed.
+use Rattle.text.specs.Text.{Next}
 use Rattle.std.specs.Prelude.{List, ℕ, pos, replicate}
 use Rattle.tariff.specs.declared.IclInterval.{IclInterval}
 use Rattle.tariff.specs.declared.IclHour.{IclHour}
 use Rattle.tariff.specs.Units.{kw}
 use Rattle.tariff.specs.Controllable.{blank_icl}
-use Rattle.text.specs.declared.Next.{Next}
 use Rattle.keys.specs.Keys.{ICL_HOUR, ICL_INTERVAL}
 use Rattle.curves.specs.CurveLine.{no_curve}
 use Rattle.curves.specs.Frame.{Kind, first_line, interval_line, interval_said, Framed, framed_at}

@@ -5,7 +5,6 @@ ghost use Rattle.std.specs.Prelude.{◌≡◌};
 ghost use Rattle.iclblocks.specs.IclBlock.{broken, icl_block_of, icl_read_of};
 
 use tariff::{Curve, IclHour, Kw, Price};
-use text::Next;
 
 mod series;
 
@@ -47,17 +46,17 @@ pub fn read_icl(block: &[u8]) -> IclRead
     let first = lines::fields_at(block, 0, keys::ICL_HOUR, 3);
     let v = first.values;
     let fields = first.next;
-    let Next::At(p1) = lines::line_end(block, fields) else {
+    let Some(p1) = lines::line_end(block, fields) else {
         return broken_icl(1);
     };
     let da = curves::curve_at(block, p1, false);
     let da_next = da.next;
-    let Next::At(p2) = da_next else {
+    let Some(p2) = da_next else {
         return broken_icl(2);
     };
     let rt = curves::curve_at(block, p2, true);
     let rt_next = rt.next;
-    let Next::At(p3) = rt_next else {
+    let Some(p3) = rt_next else {
         return broken_icl(3);
     };
     let series = series::icl_series_at(block, p3);

@@ -2,7 +2,6 @@
 ghost use Rattle.iclblocks.specs.Told.{IclSeriesReadAt};
 
 use tariff::IclInterval;
-use text::Next;
 
 // `broken` is the first line that is not as printed, or 0.
 #[derive(Clone, Copy)]
@@ -25,7 +24,7 @@ pub fn icl_series_at(s: &[u8], at: usize) -> IclSeries
         }
         let fields = lines::fields_at(s, i, keys::ICL_INTERVAL, 6);
         let end = fields.next;
-        let Next::At(next) = lines::line_end(s, end) else {
+        let Some(next) = lines::line_end(s, end) else {
             return IclSeries {
                 broken: n + 4,
                 n,

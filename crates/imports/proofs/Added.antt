@@ -1,4 +1,5 @@
 -- The blocks of an import's day, added up one after the other: what each way out of the loop says of the whole day.
+use Rattle.std.specs.Prelude.{Err, Ok}
 use mathlib.Core.Path.{◌≡◌, refl, sym, ◌∙◌, ap}
 use mathlib.Core.List.{List}
 use Prim.Native.Nat.{ℕ, ◌+◌, ◌*◌, ◌<◌, ◌≤◌}
@@ -9,11 +10,9 @@ use lib.ListN.{length, drop}
 use Rattle.exact.specs.Whole.{Within, sum_to}
 use Rattle.exact.proofs.Range.{within_zero, within_add, within_more}
 use Rattle.tariff.specs.declared.Check.{Check}
-use Rattle.tariff.specs.declared.Worth.{Worth}
-use Rattle.tariff.specs.declared.Worth.TheVariants as worth
 use Rattle.tariff.specs.declared.Grains.{Grains}
 use Rattle.tariff.specs.Units.{cents_of}
-use Rattle.tariff.specs.Reply.{ORDER, Finding, Verdict, clear, fault, put_in, number_of, place_of, first_of}
+use Rattle.tariff.specs.Reply.{ORDER, Finding, Verdict, clear, fault, put_in, number_of, place_of, first_of, Worth}
 use Rattle.tariff.specs.Import.{Spot, outside, in_hour, import_day_fault, paid, refused, import_reply_by, worth_by, worth_told}
 use Rattle.tariff.proofs.Checks.{never_clear, first_clear, FirstFault, fault_first}
 use Rattle.tariff.proofs.ImportGrains.{part_within}
@@ -59,7 +58,7 @@ module _ (cts : ℤ) (hours : ℕ) (s : List ℕ) (at : ℕ) where
     verdict_here : block_verdict hours (block k) k ≡ (worth_told a).0
     verdict_here = sym (ap (λ (w : Verdict × ℤ). w.0) here ∙ worth_verdict (block_verdict hours (block k) k) (block_part cts (block k)))
 
-    module _ (x : Grains) (q : a ≡ worth.Part x) where
+    module _ (x : Grains) (q : a ≡ Ok x) where
       clear_here : block_verdict hours (block k) k ≡ clear
       clear_here = verdict_here ∙ ap (λ (w : Worth). (worth_told w).0) q
 
@@ -81,7 +80,7 @@ module _ (cts : ℤ) (hours : ℕ) (s : List ℕ) (at : ℕ) where
           }
 
     -- the first that is refused refuses the day, with its hour
-    pub one_refused : (name : ℤ) (check : Check) → k < hours → a ≡ worth.Refused check
+    pub one_refused : (name : ℤ) (check : Check) → k < hours → a ≡ Err check
         → handed_on (worth_told a).0 k ≡ reply_under clear name cts hours (drop at s)
     unfolding reply_under import_reply_by import_day_fault
     one_refused name check l q =

@@ -1,4 +1,6 @@
 -- An import's block: its first line that is not as printed, or its record; and what it is worth in its day.
+use Rattle.text.specs.Text.{Next}
+use Rattle.std.specs.Prelude.{None, Some}
 use mathlib.Core.Path.{◌≡◌, sym, ap, ◌∙◌}
 use mathlib.Core.List.{List}
 use Prim.Native.Nat.{ℕ, ◌<◌}
@@ -8,8 +10,6 @@ use lib.IntN.{ℤ, pos}
 use Rattle.exact.proofs.Apart.{impossible}
 use Rattle.tariff.specs.Units.{kw, price}
 use Rattle.tariff.specs.Reply.{FORM, Verdict, fault}
-use Rattle.text.specs.declared.Next.{Next}
-use Rattle.text.specs.declared.Next.TheVariants.{At, Wrong}
 use Rattle.keys.specs.Keys.{IMPORT_HOUR}
 use Rattle.lines.specs.Line.{value_in}
 use Rattle.lines.specs.Series.{Series, line_count, broken_line}
@@ -32,11 +32,11 @@ module _ (s : List ℕ) (from : ℕ) where
   told : {line : ℕ} {r : ImportRead} → r ≡ import_read_of (broken line) → import_block_at s from ≡ broken line → r ≡ import_read_of (import_block_at s from)
   told e b = e ∙ sym (ap import_read_of b)
 
-  pub block_line1 : (r : ImportRead) → import_hour_line s from ≡ Wrong → r ≡ import_read_of (broken 1) → r ≡ import_read_of (import_block_at s from)
+  pub block_line1 : (r : ImportRead) → import_hour_line s from ≡ None → r ≡ import_read_of (broken 1) → r ≡ import_read_of (import_block_at s from)
   unfolding import_block_at
   block_line1 r f e = told e (rw f)
 
-  module _ (at : ℕ) (e1 : import_hour_line s from ≡ At at) (series : SeriesRead) (h : SeriesReadAt s at series) where
+  module _ (at : ℕ) (e1 : import_hour_line s from ≡ Some at) (series : SeriesRead) (h : SeriesReadAt s at series) where
     pub block_series : (r : ImportRead) → (series.broken ≡ 0 → ⊥) → r ≡ import_read_of (broken series.broken) → r ≡ import_read_of (import_block_at s from)
     unfolding import_block_at
     block_series r n e = told e (rw (e1, ← h.told, ne_eqb series.broken 0 n))
@@ -61,8 +61,8 @@ no_line_0 s from = line1 (import_hour_line s from)
     series v at (broken_line line) never e = never (ap broken_line (cc))
 
     line1 : (next : Next) → after_import_line1 next s from ≡ broken 0 → ⊥
-    line1 Wrong e = let z : ◌≡◌ {A = ℕ} 1 0 = cc in omega arith
-    line1 (At at) e = series (value_in IMPORT_HOUR s from) at (curtailed_lines s at) (series_line curtailed_line 2 30 s at (omega arith)) e
+    line1 None e = let z : ◌≡◌ {A = ℕ} 1 0 = cc in omega arith
+    line1 (Some at) e = series (value_in IMPORT_HOUR s from) at (curtailed_lines s at) (series_line curtailed_line 2 30 s at (omega arith)) e
 
 -- ---- what the code's reading says of the block, and of the part that it gives
 

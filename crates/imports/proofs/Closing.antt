@@ -9,8 +9,7 @@ use lib.ListN.{take}
 use lib.Seq.{get_or-take}
 use Rattle.tariff.specs.Units.{kw, price}
 use Rattle.tariff.specs.Import.{blank_curtailed}
-use Rattle.text.specs.declared.Next.{Next}
-use Rattle.text.specs.Text.{byte_at}
+use Rattle.text.specs.Text.{byte_at, Next}
 use Rattle.keys.specs.Keys.{IMPORT_HOUR, CURTAILED}
 use Rattle.lines.specs.Line.{value_in}
 use Rattle.lines.specs.Series.{Series, line_count, broken_line}

@@ -1,4 +1,6 @@
 -- FORM is given exactly when a line is not as printed, and at that line. And the checks of the first two lines, one by one.
+use Rattle.text.specs.Text.{Next}
+use Rattle.std.specs.Prelude.{None, Some}
 use mathlib.Core.Path.{◌≡◌, refl, ap}
 use mathlib.Core.Bool.{true, false, ◌&&◌}
 use mathlib.Core.List.{List}
@@ -14,8 +16,6 @@ use Rattle.tariff.specs.Sheet.{is_hour, is_capacity, is_price}
 use Rattle.tariff.specs.Reply.{FORM, RANGE, ORDER, SECONDS, Verdict, clear, fault, unless, ◌then◌, first_of}
 use Rattle.tariff.specs.Import.{curtailed_in_range, curtailed, import_form, import_range, import_order, import_seconds, import_fault}
 use Rattle.tariff.proofs.Checks.{unless_gives, Without, without_fault, without_unless, without_then, without_first}
-use Rattle.text.specs.declared.Next.{Next}
-use Rattle.text.specs.declared.Next.TheVariants.{At, Wrong}
 use Rattle.keys.specs.Keys.{IMPORT_HOUR}
 use Rattle.lines.specs.Line.{is_at, and_then, value_in}
 use Rattle.lines.specs.Series.{Series, line_count, broken_line}
@@ -40,8 +40,8 @@ module _ (s : List ℕ) (h : ImportHour) where
       count_in (read g) = g.n
 
   line1_few : (x : Next) → after_import_line1 x s 0 ≡ read h → h.n ≤ 30
-  line1_few (At at) q = few (value_in IMPORT_HOUR s 0) at (curtailed_lines s at) refl q
-  line1_few Wrong q = absurd (never_read q)
+  line1_few (Some at) q = few (value_in IMPORT_HOUR s 0) at (curtailed_lines s at) refl q
+  line1_few None q = absurd (never_read q)
 
   read_form : import_block_at s 0 ≡ read h → import_form h ≡ clear
   unfolding import_form import_block_at
@@ -115,5 +115,5 @@ module _ (s : List ℕ) where
 
 -- an empty line behind line 1 needs that line
 pub second_first : (x : Next) (f : ℕ → Next) → is_at (and_then x f) ≡ true → is_at x ≡ true
-second_first (At at) f e = refl
-second_first Wrong f e = e
+second_first (Some at) f e = refl
+second_first None f e = e

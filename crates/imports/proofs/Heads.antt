@@ -1,4 +1,6 @@
 -- The first two lines of an import: what the code tells of them, that the place behind them is in the text, and the reply under them.
+use Rattle.text.specs.Text.{Next}
+use Rattle.std.specs.Prelude.{None, Ok, Some}
 use mathlib.Core.Path.{◌≡◌, sym, ◌∙◌, ap}
 use mathlib.Core.Bool.{true, false}
 use mathlib.Core.List.{List}
@@ -8,14 +10,11 @@ use lib.ListN.{length, drop}
 use Rattle.exact.proofs.Unique.{one}
 use Rattle.tariff.specs.declared.Check.{Check}
 use Rattle.tariff.specs.declared.Check.TheVariants.{Form, Range}
-use Rattle.tariff.specs.declared.Found.TheVariants.{Nothing}
 use Rattle.tariff.specs.Reply.{clear, fault, number_of, place_of}
 use Rattle.tariff.specs.Import.{outside, import_day_fault, ImportReply, refused, import_reply_by}
 use Rattle.tariff.specs.Sheet.{USUAL_DAY, LONGEST_DAY, hours_by}
 use Rattle.tariff.proofs.Counts as counts
 use Rattle.tariff.proofs.Demands.{one_finding}
-use Rattle.text.specs.declared.Next.{Next}
-use Rattle.text.specs.declared.Next.TheVariants.{At, Wrong}
 use Rattle.keys.specs.Keys.{IMPORT}
 use Rattle.lines.specs.Line.{place_in, value_in, line_feed, line_at}
 use Rattle.lines.proofs.Ended.{feed_inside}
@@ -25,12 +24,12 @@ use Rattle.imports.specs.Read.{LineRead, HeadRead, refused_head}
 
 module _ (s : List ℕ) where
   -- line 1 with its third pair, and without
-  pub line_long : (next : ℕ) (name cts count : ℤ) → line_at IMPORT 3 s 0 ≡ At next → name ≡ name_in s → cts ≡ cts_in s → count ≡ value_in IMPORT s 0 2
-      → LineRead s (record { next = At next; name = name; cts = cts; count = count })
+  pub line_long : (next : ℕ) (name cts count : ℤ) → line_at IMPORT 3 s 0 ≡ Some next → name ≡ name_in s → cts ≡ cts_in s → count ≡ value_in IMPORT s 0 2
+      → LineRead s (record { next = Some next; name = name; cts = cts; count = count })
   unfolding count_in
   line_long next name cts count e p q r = record { next = rw e (sym e); name = p; cts = q; count = rw e r }
 
-  pub line_short : (next : Next) (name cts : ℤ) → line_at IMPORT 3 s 0 ≡ Wrong → line_at IMPORT 2 s 0 ≡ next → name ≡ name_in s → cts ≡ cts_in s
+  pub line_short : (next : Next) (name cts : ℤ) → line_at IMPORT 3 s 0 ≡ None → line_at IMPORT 2 s 0 ≡ next → name ≡ name_in s → cts ≡ cts_in s
       → LineRead s (record { next = next; name = name; cts = cts; count = pos USUAL_DAY })
   unfolding count_in
   line_short next name cts e two p q = record { next = rw e (sym two); name = p; cts = q; count = rw e }
@@ -39,17 +38,17 @@ module _ (s : List ℕ) where
   refused_by : (check : Check) (r : Head) → head_fault s ≡ fault (number_of check) (place_of check) → r ≡ refused_head check → HeadRead s r
   refused_by check r e f = rw f (record { found = sym e; name = rw e; cts = rw e; hours = rw e; next = rw e })
 
-  pub head_line1 : (r : Head) → head_line s ≡ Wrong → r ≡ refused_head (Form 1) → HeadRead s r
+  pub head_line1 : (r : Head) → head_line s ≡ None → r ≡ refused_head (Form 1) → HeadRead s r
   unfolding head_fault
   head_line1 r e f = refused_by (Form 1) r (rw e) f
 
-  module _ (second : ℕ) (e1 : head_line s ≡ At second) where
-    pub head_line2 : (r : Head) → line_feed s second ≡ Wrong → r ≡ refused_head (Form 2) → HeadRead s r
+  module _ (second : ℕ) (e1 : head_line s ≡ Some second) where
+    pub head_line2 : (r : Head) → line_feed s second ≡ None → r ≡ refused_head (Form 2) → HeadRead s r
     unfolding head_fault head_place
     head_line2 r e f = refused_by (Form 2) r (rw (e1, e)) f
 
-    module _ (next : ℕ) (e2 : line_feed s second ≡ At next) where
-      head_place_lem : head_place s ≡ At next
+    module _ (next : ℕ) (e2 : line_feed s second ≡ Some next) where
+      head_place_lem : head_place s ≡ Some next
       unfolding head_place
       head_place_lem = rw (e1, e2)
 
@@ -62,7 +61,7 @@ module _ (s : List ℕ) where
       head_clear e = rw (e1, head_place_lem, e)
 
       pub head_said : (name cts count : ℤ) (hours : ℕ) → head_in_range s ≡ true → name ≡ name_in s → cts ≡ cts_in s → count ≡ count_in s → hours ≡ hours_by count
-          → HeadRead s (record { found = Nothing; name = name; cts = cts; hours = hours; next = next })
+          → HeadRead s (record { found = Ok tt; name = name; cts = cts; hours = hours; next = next })
       unfolding hours_in
       head_said name cts count hours e p q r h =
           let c = head_clear e in

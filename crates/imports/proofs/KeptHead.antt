@@ -6,13 +6,11 @@ use Prim.Native.Nat.{ℕ, ◌<◌, ◌≤◌}
 use native.Mathlib.Omega.{arith}
 use lib.ListN.{take, drop}
 use lib.Seq.{get_or-take}
-use Rattle.std.specs.Prelude.{if◌then◌else◌}
+use Rattle.std.specs.Prelude.{if◌then◌else◌, None, Some}
 use Rattle.exact.proofs.Parts.{by_test}
 use Rattle.tariff.specs.Reply.{FORM, RANGE, Verdict, clear, unless, ◌then◌}
 use Rattle.tariff.proofs.Checks.{then_clear, unless_clear}
-use Rattle.text.specs.Text.{byte_at, key_at}
-use Rattle.text.specs.declared.Next.{Next}
-use Rattle.text.specs.declared.Next.TheVariants.{At, Wrong}
+use Rattle.text.specs.Text.{byte_at, key_at, Next}
 use Rattle.keys.specs.Keys.{IMPORT}
 use Rattle.lines.specs.Line.{is_at, place_in, and_then, value_in, line_feed, line_at}
 use Rattle.lines.specs.Cut.{empty_in, behind}
@@ -32,9 +30,9 @@ module _ (s : List ℕ) where
   pairs_few = by_test (says_hours s) (λ t. (if t then 3 else 2) ≤ 3) (λ e. omega arith) (λ e. omega arith)
 
   -- and holds no empty line
-  head_passed : (j : ℕ) → head_line s ≡ At j → empty_in true s 0 ≡ empty_in true (drop j s) j
+  head_passed : (j : ℕ) → head_line s ≡ Some j → empty_in true s 0 ≡ empty_in true (drop j s) j
   head_passed j =
-      by_test (says_hours s) (λ t. line_at IMPORT (if t then 3 else 2) s 0 ≡ At j → empty_in true s 0 ≡ empty_in true (drop j s) j)
+      by_test (says_hours s) (λ t. line_at IMPORT (if t then 3 else 2) s 0 ≡ Some j → empty_in true s 0 ≡ empty_in true (drop j s) j)
       (λ e. line_passed s IMPORT 2 refl j)
       (λ e. line_passed s IMPORT 1 refl j)
 
@@ -106,23 +104,23 @@ module _ (s : List ℕ) where
   piece_line = shared_line (piece_shares s)
 
   -- behind line 1 stands a byte of the first piece, for that line holds no empty one
-  cut_place : (i : ℕ) → empty_in true s 0 ≡ At i → head_line s ≡ head_line (take i s) → head_place s ≡ head_place (take i s)
+  cut_place : (i : ℕ) → empty_in true s 0 ≡ Some i → head_line s ≡ head_line (take i s) → head_place s ≡ head_place (take i s)
   unfolding head_place key_at
   cut_place i e same = go (head_line s) refl
     where
       go : (x : Next) → head_line s ≡ x → and_then (head_line s) (line_feed s) ≡ and_then (head_line (take i s)) (line_feed (take i s))
-      go (At j) q =
+      go (Some j) q =
           let inside = (behind_range s j i true (sym (head_passed s j q) ∙ e)).0 in
           rw (← same, q, get_or-take i s j 256 inside)
-      go Wrong q = rw (← same, q)
+      go None q = rw (← same, q)
 
   piece_place : head_place s ≡ head_place (first_piece s)
   unfolding first_piece
   piece_place = go (empty_in true s 0) refl piece_line.place
     where
       go : (x : Next) → empty_in true s 0 ≡ x → head_line s ≡ head_line (up_to_place x s) → head_place s ≡ head_place (up_to_place x s)
-      go (At i) e same = cut_place i e same
-      go Wrong e same = refl
+      go (Some i) e same = cut_place i e same
+      go None e same = refl
 
   first_head : SameHead s (first_piece s)
   first_head = same_head piece_line piece_place
@@ -148,12 +146,12 @@ head_kept {got} {text} (long e) = via (turned (first_enough got)) (turned (first
 module _ (s : List ℕ) where
   place_behind_lem : (x : Next) → head_place s ≡ x → is_at x ≡ true → drop (place_in x) s ≡ behind s
   unfolding head_place
-  place_behind_lem (At k) e u =
+  place_behind_lem (Some k) e u =
       let front = went (head_line s) (line_feed s) k e in
       let j = front.0 in
       let next = ap (λ (y : Next). and_then y (line_feed s)) (sym front.1) ∙ e in
       behind_at s 0 k (head_passed s j front.1 ∙ feed_empty s j k next)
-  place_behind_lem Wrong e u = absurd (false≢true u)
+  place_behind_lem None e u = absurd (false≢true u)
 
   pub clear_behind : head_fault s ≡ clear → import_body s ≡ behind s
   unfolding head_fault

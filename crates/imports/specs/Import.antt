@@ -1,13 +1,12 @@
 -- An import's text: `import=N cts=C`, which ` hours=H` may end, an empty line, and a block for each of the day's hours.
-use Rattle.std.specs.Prelude.{if◌then◌else◌, Bool, ◌&&◌, List, ℕ, ℤ, pos, drop}
+use Rattle.text.specs.Text.{Next}
+use Rattle.std.specs.Prelude.{if◌then◌else◌, Bool, ◌&&◌, List, ℕ, ℤ, pos, drop, None, Some}
 use Rattle.tariff.specs.declared.Curtailed.{Curtailed}
 use Rattle.tariff.specs.declared.ImportHour.{ImportHour}
 use Rattle.tariff.specs.Units.{kw, price}
 use Rattle.tariff.specs.Reply.{FORM, RANGE, Verdict, fault, unless, ◌then◌}
 use Rattle.tariff.specs.Import.{blank_curtailed, import_fault, import_part, import_day_fault, ImportReply, import_reply_by}
 use Rattle.tariff.specs.Sheet.{USUAL_DAY, is_count, hours_by, is_mark, is_name}
-use Rattle.text.specs.declared.Next.{Next}
-use Rattle.text.specs.declared.Next.TheVariants.{At, Wrong}
 use Rattle.records.specs.Records.{curtailed_of}
 use Rattle.keys.specs.Keys.{IMPORT, IMPORT_HOUR, CURTAILED}
 use Rattle.lines.specs.Line.{is_at, place_in, and_then, value_in, line_feed, line_at, filled}
@@ -89,8 +88,8 @@ with_curtailed v s at (broken_line line) = broken line
 with_curtailed v s at (line_count n) = read (import_hour_with v s at n)
 
 abbrev pub after_import_line1 : Next → List ℕ → ℕ → ImportBlock
-after_import_line1 Wrong s from = broken 1
-after_import_line1 (At at) s from = with_curtailed (value_in IMPORT_HOUR s from) s at (curtailed_lines s at)
+after_import_line1 None s from = broken 1
+after_import_line1 (Some at) s from = with_curtailed (value_in IMPORT_HOUR s from) s at (curtailed_lines s at)
 
 -- the block that begins at a place: read up to its first empty line or the end of the text
 unfoldable pub import_block_at : List ℕ → ℕ → ImportBlock

@@ -1,7 +1,6 @@
 -- What the code has read of an import's text, in the words of its definitions.
-use Rattle.std.specs.Prelude.{◌≡◌, List, ℕ, ℤ, pos, replicate}
+use Rattle.std.specs.Prelude.{◌≡◌, List, ℕ, ℤ, pos, replicate, Err}
 use Rattle.tariff.specs.declared.Check.{Check}
-use Rattle.tariff.specs.declared.Found.TheVariants.{Fault}
 use Rattle.tariff.specs.declared.ImportHour.{ImportHour}
 use Rattle.tariff.specs.Units.{kw, price}
 use Rattle.tariff.specs.Reply.{FORM, Verdict, clear, fault, put_in, shown}
@@ -36,7 +35,7 @@ pub record HeadRead (s : List ℕ) (r : Head) : Type 0 where
   pub next : r.next ≡ unless_refused (head_fault s) (place_in (head_place s)) 0
 
 abbrev pub refused_head : Check → Head
-refused_head check = record { found = Fault check; name = pos 0; cts = pos 0; hours = 0; next = 0 }
+refused_head check = record { found = Err check; name = pos 0; cts = pos 0; hours = 0; next = 0 }
 
 -- ---- a block: the first line that is not as printed, from 1, or 0 and the record. No record goes with a broken block
 

@@ -4,7 +4,6 @@ ghost use Rattle.imports.specs.Import.{broken, import_block_at};
 ghost use Rattle.imports.specs.Read.{SeriesReadAt, import_read_of};
 
 use tariff::{Curtailed, ImportHour, Kw, Price};
-use text::Next;
 
 // The interval lines of a block: `broken` is the first line that is not as printed, or 0.
 #[derive(Clone, Copy)]
@@ -34,7 +33,7 @@ pub fn series_at(s: &[u8], at: usize) -> SeriesRead
         }
         let fields = lines::fields_at(s, i, keys::CURTAILED, 7);
         let end = fields.next;
-        let Next::At(next) = lines::line_end(s, end) else {
+        let Some(next) = lines::line_end(s, end) else {
             return SeriesRead {
                 broken: n + 2,
                 n,
@@ -72,7 +71,7 @@ pub fn read_block(s: &[u8], at: usize) -> ImportRead
     let first = lines::fields_at(s, at, keys::IMPORT_HOUR, 3);
     let v = first.values;
     let fields = first.next;
-    let Next::At(next) = lines::line_end(s, fields) else {
+    let Some(next) = lines::line_end(s, fields) else {
         return broken_block(1);
     };
     let series = series_at(s, next);

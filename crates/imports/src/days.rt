@@ -8,10 +8,10 @@ ghost use Rattle.imports.specs.Import.{import_block_at, reply_under};
 ghost use Rattle.imports.specs.Read.{block_worth, handed_on};
 
 use crate::block;
-use tariff::{Check, Grains, ImportAnswer, ImportFault, Worth};
+use tariff::{Check, Grains, ImportAnswer, ImportFault};
 
 // What the block that begins at a place is worth, as block k of a day of so many hours.
-pub fn settle_block(s: &[u8], at: usize, cts: i64, k: usize, hours: usize) -> Worth
+pub fn settle_block(s: &[u8], at: usize, cts: i64, k: usize, hours: usize) -> Result<Grains, Check>
     requires { at ≤ length s.now }
     ensures { worth_told result ≡ block_worth cts hours (import_block_at (drop at s.now) 0) k }
 {
@@ -19,7 +19,7 @@ pub fn settle_block(s: &[u8], at: usize, cts: i64, k: usize, hours: usize) -> Wo
     let read = block::read_block(rest, 0);
     let broken = read.broken;
     if broken != 0 {
-        return Worth::Refused(Check::Form(broken));
+        return Err(Check::Form(broken));
     }
     let hour = read.hour;
     intervals::import_part(hour, cts, k, hours)
@@ -35,12 +35,12 @@ pub fn plus(sum: Grains, part: Grains) -> Grains
 
 // The refusal of block k, handed on with its hour. What is worth a part is never handed on, and no form of the language leaves that
 // arm out: it refuses the day too, and names the hour, so that no block could go missing from a payment.
-pub fn handed_on(answer: Worth, k: usize) -> ImportAnswer
+pub fn handed_on(answer: Result<Grains, Check>, k: usize) -> ImportAnswer
     ensures { import_told result ≡ handed_on (worth_told answer).0 k }
 {
     match answer {
-        Worth::Refused(check) => ImportAnswer::Refused(ImportFault::Block(k, check)),
-        Worth::Part(_) => ImportAnswer::Refused(ImportFault::Block(k, Check::Form(0))),
+        Err(check) => ImportAnswer::Refused(ImportFault::Block(k, check)),
+        Ok(_) => ImportAnswer::Refused(ImportFault::Block(k, Check::Form(0))),
     }
 }
 
@@ -54,7 +54,7 @@ pub fn settle_blocks(s: &[u8], at: usize, name: i64, cts: i64, hours: usize) -> 
     let mut k: usize = 0;
     while k < hours {
         let answer = settle_block(s, i, cts, k, hours);
-        let Worth::Part(grains) = answer else {
+        let Ok(grains) = answer else {
             return handed_on(answer, k);
         };
         sum = plus(sum, grains);

@@ -3,13 +3,12 @@ ghost use Rattle.std.specs.Prelude.{◌≡◌, ◌&&◌};
 ghost use Rattle.tariff.specs.Sheet.{is_count, is_mark, is_name};
 ghost use Rattle.imports.specs.Read.{LineRead, HeadRead, refused_head};
 
-use tariff::{Check, Found};
-use text::Next;
+use tariff::Check;
 
 // Line 1: the place behind it, or nowhere, and its values.
 #[derive(Clone, Copy)]
 pub struct FirstLine {
-    pub next: Next,
+    pub next: Option<usize>,
     pub name: i64,
     pub cts: i64,
     pub count: i64,
@@ -19,7 +18,7 @@ pub struct FirstLine {
 // behind them.
 #[derive(Clone, Copy)]
 pub struct Head {
-    pub found: Found,
+    pub found: Result<(), Check>,
     pub name: i64,
     pub cts: i64,
     pub hours: usize,
@@ -31,7 +30,7 @@ pub fn refused(check: Check) -> Head
     ensures { result ≡ refused_head check }
 {
     Head {
-        found: Found::Fault(check),
+        found: Err(check),
         name: 0,
         cts: 0,
         hours: 0,
@@ -52,7 +51,7 @@ pub fn read_line(s: &[u8]) -> FirstLine
     let three = lines::fields_at(s, 0, keys::IMPORT, 3);
     let v = three.values;
     let fields = three.next;
-    let Next::At(next) = lines::line_end(s, fields) else {
+    let Some(next) = lines::line_end(s, fields) else {
         let two = lines::fields_at(s, 0, keys::IMPORT, 2);
         let fewer = two.next;
         return FirstLine {
@@ -63,7 +62,7 @@ pub fn read_line(s: &[u8]) -> FirstLine
         };
     };
     FirstLine {
-        next: Next::At(next),
+        next: Some(next),
         name: v[0],
         cts: v[1],
         count: v[2],
@@ -75,17 +74,17 @@ pub fn read_head(s: &[u8]) -> Head
 {
     let line = read_line(s);
     let first = line.next;
-    let Next::At(second) = first else {
+    let Some(second) = first else {
         return refused(Check::Form(1));
     };
-    let Next::At(next) = lines::line_end(s, Next::At(second)) else {
+    let Some(next) = lines::line_end(s, Some(second)) else {
         return refused(Check::Form(2));
     };
     if !in_range(line.name, line.cts, line.count) {
         return refused(Check::Range(1));
     }
     Head {
-        found: Found::Nothing,
+        found: Ok(()),
         name: line.name,
         cts: line.cts,
         hours: ranges::hours_by(line.count),

@@ -5,7 +5,7 @@ ghost use Rattle.std.specs.Prelude.{◌≡◌};
 ghost use Rattle.tariff.specs.Import.{import_told};
 ghost use Rattle.imports.specs.Import.{hours_in, import_reply};
 
-use tariff::{Found, ImportAnswer, ImportFault};
+use tariff::{ImportAnswer, ImportFault};
 
 mod block;
 mod days;
@@ -25,7 +25,7 @@ pub fn settle_import(s: &[u8]) -> ImportAnswer
 {
     let head = head::read_head(s);
     let found = head.found;
-    if let Found::Fault(check) = found {
+    if let Err(check) = found {
         return ImportAnswer::Refused(ImportFault::Head(check));
     }
     days::settle_blocks(s, head.next, head.name, head.cts, head.hours)

@@ -7,15 +7,13 @@ use native.Mathlib.Omega.{arith}
 use lib.IntN.{ℤ}
 use lib.ListN.{set, replicate, length-set}
 use Rattle.exact.proofs.Apart.{impossible}
-use Rattle.std.specs.Prelude.{if◌then◌else◌}
+use Rattle.std.specs.Prelude.{if◌then◌else◌, Err, Ok}
 use Rattle.exact.proofs.Parts.{by_test}
 use Rattle.exact.proofs.Range.{within_less, within_mul, within_lit, within_zero}
 use Rattle.tariff.specs.declared.Check.{Check}
 use Rattle.tariff.specs.declared.Check.TheVariants.{Derate, Point}
 use Rattle.tariff.specs.declared.Curve.{Curve}
 use Rattle.tariff.specs.declared.DayAhead.{DayAhead}
-use Rattle.tariff.specs.declared.Found.{Found}
-use Rattle.tariff.specs.declared.Found.TheVariants.{Nothing, Fault}
 use Rattle.tariff.specs.declared.Kw.{Kw}
 use Rattle.tariff.specs.declared.Hour.{Hour}
 use Rattle.tariff.specs.declared.IclHour.{IclHour}
@@ -27,7 +25,7 @@ use Rattle.tariff.specs.Curve.{known}
 use Rattle.tariff.specs.Derate.{exceeds_room}
 use Rattle.tariff.specs.Point.{point_of}
 use Rattle.tariff.specs.Contributions.{curve_in}
-use Rattle.tariff.specs.Reply.{clear, place_of}
+use Rattle.tariff.specs.Reply.{clear, place_of, Found}
 use Rattle.tariff.specs.Checks.{Parts, form_of, range_of}
 use Rattle.tariff.specs.Hour.{form, range, interval, parts_of, outcome_at}
 use Rattle.tariff.specs.Controllable.{icl_ahead_in_range, icl_interval_in_range, icl_interval, icl_parts, icl_outcome_at}
@@ -70,15 +68,15 @@ module _ (rt : Curve) (a : DayAhead) (v : Interval) (er : curve_in_range rt ≡ 
   task_fits : (place : ℕ) → Fitting (task_of rt a v place)
   task_fits place =
       task_cases Fitting rt a v place
-      (λ _. idle_fits Nothing)
-      (λ _ _. idle_fits (Fault (Point place)))
-      (λ _ _ _ _. idle_fits (Fault (Derate place)))
+      (λ _. idle_fits (Ok tt))
+      (λ _ _. idle_fits (Err (Point place)))
+      (λ _ _ _ _. idle_fits (Err (Derate place)))
       (λ _. ready_fits)
 
 -- a task is stopped at its own place
-task_placed : (rt : Curve) (a : DayAhead) (v : Interval) (place : ℕ) (check : Check) → (task_of rt a v place).stop ≡ Fault check → place_of check ≡ place
+task_placed : (rt : Curve) (a : DayAhead) (v : Interval) (place : ℕ) (check : Check) → (task_of rt a v place).stop ≡ Err check → place_of check ≡ place
 task_placed rt a v place check =
-    task_cases (λ t. t.stop ≡ Fault check → place_of check ≡ place) rt a v place
+    task_cases (λ t. t.stop ≡ Err check → place_of check ≡ place) rt a v place
     (λ _ e. impossible cc)
     (λ _ _ e. let same : Point place ≡ check = cc in ap place_of (sym same))
     (λ _ _ _ _ e. let same : Derate place ≡ check = cc in ap place_of (sym same))
@@ -94,14 +92,14 @@ tasks_next {task} {i} {tasks} o u {t} e =
     record {
       long = length-set tasks i t ∙ o.long;
       each =
-          by_entry tasks i t (idle_task Nothing) (let l = o.long in omega arith) (λ k x. k < i + 1 → x ≡ task k) (λ _. e)
+          by_entry tasks i t (idle_task (Ok tt)) (let l = o.long in omega arith) (λ k x. k < i + 1 → x ≡ task k) (λ _. e)
           (λ k n v. o.each k (omega arith));
     }
 
 -- nothing is asked of an excluded hour
-pub tasks_idle : (n : ℕ) {t : Task} → t ≡ idle_task Nothing → TasksOf (λ i. idle_task Nothing) n (replicate 30 t)
+pub tasks_idle : (n : ℕ) {t : Task} → t ≡ idle_task (Ok tt) → TasksOf (λ i. idle_task (Ok tt)) n (replicate 30 t)
 tasks_idle n e =
-    subst (λ (t : Task). TasksOf (λ i. idle_task Nothing) n (replicate 30 t)) (sym e) (record { long = refl; each = λ i u. repeated 30 i (idle_task Nothing) })
+    subst (λ (t : Task). TasksOf (λ i. idle_task (Ok tt)) n (replicate 30 t)) (sym e) (record { long = refl; each = λ i u. repeated 30 i (idle_task (Ok tt)) })
 
 -- both curves keep a property, so the one that is taken does
 either : (P : Curve → Type 0) (lower : Bool) {da rt : Curve} → P da → P rt → P (curve_in lower da rt)
@@ -111,7 +109,7 @@ either P false x y = y
 -- the tasks of an hour of any kind whose block is in form and in range, where each fits and is stopped at its own place
 module _ (p : Parts) (formed : form_of p ≡ clear) (expected : Expected) (ranged : range_of p expected ≡ clear) where
   walkable : {task : ℕ → Task} → ((i : ℕ) → i < p.n → Fitting (task i))
-      → ((i : ℕ) (check : Check) → (task i).stop ≡ Fault check → place_of check ≡ i + 1)
+      → ((i : ℕ) (check : Check) → (task i).stop ≡ Err check → place_of check ≡ i + 1)
       → {tasks : List Task} → TasksOf task p.n tasks → Walkable tasks p.n p.da p.rt
   walkable fits placed t =
       let n = form_says p formed in
@@ -131,11 +129,11 @@ module _ (h : Hour) (ok : (form h ≡ clear) × (expected : Expected) × (range 
   in_range_lem {i} u = let r = range_says (parts_of h) ok.1 ok.2 in ((form_says (parts_of h) ok.0).1, r.1, r.4 i u)
 
   asked_fits : (is_excluded : Bool) (i : ℕ) → i < h.n → Fitting (asked h is_excluded i)
-  asked_fits true i u = idle_fits Nothing
+  asked_fits true i u = idle_fits (Ok tt)
   asked_fits false i u =
       task_fits h.rt h.ahead (interval h i) (range_says (parts_of h) ok.1 ok.2).3 (in_range_lem u).1 (in_range_lem u).2 (i + 1)
 
-  asked_placed : (is_excluded : Bool) (i : ℕ) (check : Check) → (asked h is_excluded i).stop ≡ Fault check → place_of check ≡ i + 1
+  asked_placed : (is_excluded : Bool) (i : ℕ) (check : Check) → (asked h is_excluded i).stop ≡ Err check → place_of check ≡ i + 1
   asked_placed true i check e = impossible cc
   asked_placed false i check e = task_placed h.rt h.ahead (interval h i) (i + 1) check e
 
@@ -171,19 +169,19 @@ module _ (h : IclHour) (formed : form_of (icl_parts h) ≡ clear) (expected : Ex
       }
 
   icl_asked_fits : (is_excluded : Bool) (i : ℕ) → i < h.n → Fitting (icl_asked h is_excluded i)
-  icl_asked_fits true i u = idle_fits Nothing
+  icl_asked_fits true i u = idle_fits (Ok tt)
   icl_asked_fits false i u = rw (ready i u) (icl_fits i u)
 
   -- no check stops one before it is priced
-  icl_asked_free : (is_excluded : Bool) (i : ℕ) → (icl_asked h is_excluded i).stop ≡ Nothing
+  icl_asked_free : (is_excluded : Bool) (i : ℕ) → (icl_asked h is_excluded i).stop ≡ Ok tt
   unfolding icl_task_of
   icl_asked_free true i = refl
   icl_asked_free false i = icl_free h.dasi h.dasw (icl_interval h i)
     where
-      icl_free : (dasi dasw : Kw) (v : IclInterval) → (icl_task_of dasi dasw v).stop ≡ Nothing
+      icl_free : (dasi dasw : Kw) (v : IclInterval) → (icl_task_of dasi dasw v).stop ≡ Ok tt
       icl_free dasi dasw v =
           by_test (icl_ahead_in_range dasi dasw && icl_interval_in_range v)
-          (λ b. (if b then icl_task dasi dasw v else idle_task Nothing).stop ≡ Nothing)
+          (λ b. (if b then icl_task dasi dasw v else idle_task (Ok tt)).stop ≡ Ok tt)
           (λ e. refl)
           (λ e. refl)
 

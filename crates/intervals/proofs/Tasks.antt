@@ -5,7 +5,7 @@ use mathlib.Core.List.{List}
 use Prim.Native.Nat.{ℕ, ◌≤◌}
 use lib.IntN.{ℤ, pos, neg_ℤ, ◌+ℤ◌, ◌-ℤ◌, ◌*ℤ◌, +ℤ_idl, +ℤ_idr}
 use lib.Signed.{lt_z, le_z}
-use Rattle.std.specs.Prelude.{if◌then◌else◌}
+use Rattle.std.specs.Prelude.{if◌then◌else◌, Err, Ok}
 use Rattle.exact.specs.Whole.{min_z, max_z, span, Within}
 use Rattle.exact.proofs.Parts.{arithℤ, by_test}
 use Rattle.exact.proofs.Ring.{expandℤ}
@@ -21,7 +21,6 @@ use Rattle.tariff.specs.declared.Hour.{Hour}
 use Rattle.tariff.specs.declared.IclHour.{IclHour}
 use Rattle.tariff.specs.declared.IclInterval.{IclInterval}
 use Rattle.tariff.specs.declared.Check.TheVariants.{Derate, Point}
-use Rattle.tariff.specs.declared.Found.TheVariants.{Nothing, Fault}
 use Rattle.tariff.specs.Units.{kw, price, seconds, grains, grains_of}
 use Rattle.tariff.specs.Curve.{Amount, known, none, change, quote, sum_up, integral}
 use Rattle.tariff.specs.Eligible.{lags}
@@ -95,7 +94,7 @@ module _ (D L pen s y : ℤ) where
 module _ (da rt : Curve) (D L pen s others : ℤ) where
   task_by : Bool → Task
   task_by lower =
-      record { stop = Nothing; lower = lower; from = kw D; limit = kw L; pen = price pen; s = seconds s; beside = grains (pos 0); others = grains others }
+      record { stop = Ok tt; lower = lower; from = kw D; limit = kw L; pen = price pen; s = seconds s; beside = grains (pos 0); others = grains others }
 
   energy_task : (lower : Bool) → with_others others (energy lower da rt D L pen s) ≡ of_task da rt (task_by lower)
   unfolding energy_by by_integral task_by
@@ -144,24 +143,24 @@ module _ (h : IclHour) (v : IclInterval) where
 -- ---- a task by its cases
 
 pub task_cases : (P : Task → Type 0) (rt : Curve) (a : DayAhead) (v : Interval) (place : ℕ)
-    → (lags v ≡ true → P (idle_task Nothing))
-    → (lags v ≡ false → point_of rt v ≡ none → P (idle_task (Fault (Point place))))
-    → (lags v ≡ false → (E : ℤ) → point_of rt v ≡ known E → exceeds_room a v ≡ true → P (idle_task (Fault (Derate place))))
+    → (lags v ≡ true → P (idle_task (Ok tt)))
+    → (lags v ≡ false → point_of rt v ≡ none → P (idle_task (Err (Point place))))
+    → (lags v ≡ false → (E : ℤ) → point_of rt v ≡ known E → exceeds_room a v ≡ true → P (idle_task (Err (Derate place))))
     → (lags v ≡ false → (E : ℤ) → point_of rt v ≡ known E → exceeds_room a v ≡ false → P (ready_task a v E))
     → P (task_of rt a v place)
 unfolding task_of derated_task
 task_cases P rt a v place lagging pointless stopped ready =
     by_test (lags v)
-    (λ b. P (if b then idle_task Nothing else pointed_task place (point_of rt v) (derated_task a v place)))
+    (λ b. P (if b then idle_task (Ok tt) else pointed_task place (point_of rt v) (derated_task a v place)))
     lagging
     (λ l. go l (point_of rt v) refl)
   where
     go : lags v ≡ false → (x : Amount) → point_of rt v ≡ x → P (pointed_task place x (derated_task a v place))
     go l none e = pointless l e
-    go l (known E) e = by_test (exceeds_room a v) (λ b. P (if b then idle_task (Fault (Derate place)) else ready_task a v E)) (stopped l E e) (ready l E e)
+    go l (known E) e = by_test (exceeds_room a v) (λ b. P (if b then idle_task (Err (Derate place)) else ready_task a v E)) (stopped l E e) (ready l E e)
 
 -- nothing is priced for a lagging interval
-pub idle_outcome : (da rt : Curve) → gives (pos 0) ≡ of_task da rt (idle_task Nothing)
+pub idle_outcome : (da rt : Curve) → gives (pos 0) ≡ of_task da rt (idle_task (Ok tt))
 unfolding cost_up sum_up finished min_z max_z span
 idle_outcome da rt = refl
 
@@ -179,8 +178,8 @@ task_outcome h v place =
 
 module _ (rt : Curve) (a : DayAhead) (v : Interval) (place : ℕ) where
   abbrev pub asked_at : Standing → Task
-  asked_at Lags = idle_task Nothing
-  asked_at Pointless = idle_task (Fault (Point place))
+  asked_at Lags = idle_task (Ok tt)
+  asked_at Pointless = idle_task (Err (Point place))
   asked_at (At e) = derated_task a v place e.0
 
   pub standing_asks : rt.n ≤ 12 → asked_at (standing_of rt v) ≡ task_of rt a v place
@@ -188,7 +187,7 @@ module _ (rt : Curve) (a : DayAhead) (v : Interval) (place : ℕ) where
   standing_asks u =
       rw (standing_is rt v u)
       (by_test (lags v)
-      (λ b. asked_at (if b then Lags else standing_by (point_of rt v)) ≡ (if b then idle_task Nothing else pointed_task place (point_of rt v) (derated_task a v place)))
+      (λ b. asked_at (if b then Lags else standing_by (point_of rt v)) ≡ (if b then idle_task (Ok tt) else pointed_task place (point_of rt v) (derated_task a v place)))
       (λ e. refl)
       (λ e. go (point_of rt v)))
     where
@@ -204,11 +203,11 @@ module _ (a : DayAhead) (v : Interval) (E : ℤ) (q : List Kw) (e : q ≡ kw_fiv
       → counted.0 ≡ capped_of v
       → limit.0 ≡ limit_of (kw_at q 0) v.en.0 E counted.0
       → others.0 ≡ other_than_energy a v
-      → record { stop = Nothing; lower = lower; from = kw (kw_at q 0); limit = limit; pen = v.pen; s = v.s; beside = grains (pos 0); others = others } ≡ ready_task a v E
+      → record { stop = Ok tt; lower = lower; from = kw (kw_at q 0); limit = limit; pen = v.pen; s = v.s; beside = grains (pos 0); others = others } ≡ ready_task a v E
   task_same l c m o =
       λ i.
       record {
-        stop = Nothing;
+        stop = Ok tt;
         lower = (l ∙ (λ j. is_lower (kw_at (e j) 0) v.en.0)) i;
         from = kw (kw_at (e i) 0);
         limit = kw ((m ∙ (λ j. limit_of (kw_at (e j) 0) v.en.0 E (c j))) i);

@@ -1,4 +1,5 @@
 -- A turn of the walk: what a task asks, and how the walk goes on or ends by the cost of that.
+use Rattle.std.specs.Prelude.{Err, Ok}
 use mathlib.Core.Path.{◌≡◌, refl, sym, ap, ◌∙◌}
 use mathlib.Core.Bool.{true, false}
 use mathlib.Core.List.{List}
@@ -10,7 +11,6 @@ use Rattle.exact.proofs.Range.{within_min, within_max}
 use Rattle.tariff.specs.declared.Check.{Check}
 use Rattle.tariff.specs.declared.Check.TheVariants.{Reach}
 use Rattle.tariff.specs.declared.Curve.{Curve}
-use Rattle.tariff.specs.declared.Found.TheVariants.{Nothing, Fault}
 use Rattle.tariff.specs.declared.Grains.{Grains}
 use Rattle.tariff.specs.Curve.{none}
 use Rattle.tariff.specs.Contributions.{curve_in}
@@ -35,7 +35,7 @@ module _ {tasks : List Task} {n : ℕ} {da rt : Curve} (ok : Walkable tasks n da
   abbrev t : Task
   t = task_at tasks i
 
-  pub asks : t.stop ≡ Nothing → {c : Curve} {low high : ℤ} → c ≡ curve_in t.lower da rt → low ≡ low_of t → high ≡ high_of t
+  pub asks : t.stop ≡ Ok tt → {c : Curve} {low high : ℤ} → c ≡ curve_in t.lower da rt → low ≡ low_of t → high ≡ high_of t
       → Asks (outcomes_of da rt tasks) n i t c low high
   asks free ec el eh =
       let f = ok.fits i more in
@@ -59,16 +59,16 @@ module _ {tasks : List Task} {n : ℕ} {da rt : Curve} (ok : Walkable tasks n da
       }
 
   -- a check stops the task
-  pub turn_stops : {parts : List Grains} → Walking (outcomes_of da rt tasks) n parts i → {check : Check} → t.stop ≡ Fault check
-      → WalkedTo (outcomes_of da rt tasks) n (walked (Fault check) parts)
+  pub turn_stops : {parts : List Grains} → Walking (outcomes_of da rt tasks) n parts i → {check : Check} → t.stop ≡ Err check
+      → WalkedTo (outcomes_of da rt tasks) n (walked (Err check) parts)
   turn_stops w {check} e = walk_stops w more check (rw e) (ok.placed i more check e)
 
 module _ {outcome : ℕ → Outcome} {n i : ℕ} {t : Task} {c : Curve} {low high : ℤ} (a : Asks outcome n i t c low high)
     {parts : List Grains} (w : Walking outcome n parts i) where
-  pub turn_unreached : cost_up c low high t.s.0 ≡ none → WalkedTo outcome n (walked (Fault (Reach (i + 1))) parts)
+  pub turn_unreached : cost_up c low high t.s.0 ≡ none → WalkedTo outcome n (walked (Err (Reach (i + 1))) parts)
   turn_unreached e = walk_stops w a.more (Reach (i + 1)) (a.by_cost ∙ ap (of_cost t) e) refl
 
-  pub turn_before : lt_z low high ≡ true → lt_z low c.start.0 ≡ true → WalkedTo outcome n (walked (Fault (Reach (i + 1))) parts)
+  pub turn_before : lt_z low high ≡ true → lt_z low c.start.0 ≡ true → WalkedTo outcome n (walked (Err (Reach (i + 1))) parts)
   turn_before up late = turn_unreached (cost_before c low high t.s.0 up late)
 
   pub turn_goes_on : {cost : ℤ} → Priced c low high t.s.0 cost → (g : Grains) → g.0 ≡ finished t cost → Walking outcome n (set parts i g) (i + 1)

@@ -1,4 +1,5 @@
 -- No two different replies satisfy the contract of a public function.
+use Rattle.std.specs.Prelude.{Err, Ok}
 use mathlib.Core.Path.{◌≡◌, refl, ap, ◌∙◌}
 use Prim.Native.Nat.{ℕ, ◌<◌}
 use native.Mathlib.Decide.{dec_lt}
@@ -6,10 +7,8 @@ use native.Mathlib.Omega.{arith}
 use lib.IntN.{pos}
 use lib.Seq.{ext_get_or}
 use Rattle.exact.proofs.Unique.{one, OneReply}
-use Rattle.tariff.specs.declared.Found.{Found}
-use Rattle.tariff.specs.declared.Found.TheVariants.{Nothing, Fault}
 use Rattle.tariff.specs.Units.{grains}
-use Rattle.tariff.specs.Reply.{Verdict, shown, clear}
+use Rattle.tariff.specs.Reply.{Verdict, shown, clear, Found}
 use Rattle.tariff.specs.Outcome.{Outcome}
 use Rattle.tariff.specs.Hour.{block_fault, outcome_at}
 use Rattle.tariff.specs.Controllable.{icl_fault, icl_outcome_at}
@@ -48,8 +47,8 @@ module _ (block : Verdict) (outcome : ℕ → Outcome) (n : ℕ) (r s : Contribu
   one_contributions = go s.found refl
     where
       go : (found : Found) → s.found ≡ found → r ≡ s
-      go Nothing e = same_clear (ap shown (same_found ∙ e)) (ap shown e)
-      go (Fault check) e = one r s (of.refused check (same_found ∙ e)) (like.refused check e)
+      go (Ok tt) e = same_clear (ap shown (same_found ∙ e)) (ap shown e)
+      go (Err check) e = one r s (of.refused check (same_found ∙ e)) (like.refused check e)
 
 pub one_work_out : OneReply work_out.Post
 one_work_out κ a r s u v p q = one_contributions (block_fault a.0 a.1.1.0) (outcome_at a.0 a.1.0) a.0.n r s p q

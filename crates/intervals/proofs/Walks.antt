@@ -1,4 +1,5 @@
 -- The walk over the intervals, whatever they come to: what holds at interval i, one interval more, and each way that it ends.
+use Rattle.std.specs.Prelude.{Err, Ok}
 use mathlib.Core.Path.{◌≡◌, refl, sym, ap, ◌∙◌}
 use mathlib.Core.List.{List}
 use Prim.Native.Nat.{ℕ, zero, suc, ◌+◌, ◌<◌, ◌≤◌}
@@ -11,11 +12,9 @@ use lib.Seq.{get_or-set_same, get_or-set_other}
 use Rattle.exact.specs.Whole.{Within}
 use Rattle.exact.proofs.Range.{within_zero}
 use Rattle.tariff.specs.declared.Grains.{Grains}
-use Rattle.tariff.specs.declared.Found.{Found}
-use Rattle.tariff.specs.declared.Found.TheVariants.{Nothing, Fault}
 use Rattle.tariff.specs.declared.Check.{Check}
 use Rattle.tariff.specs.Units.{grains}
-use Rattle.tariff.specs.Reply.{number_of, place_of, Verdict, clear, first_of}
+use Rattle.tariff.specs.Reply.{number_of, place_of, Verdict, clear, first_of, Found}
 use Rattle.tariff.specs.Outcome.{Outcome, gives, stops, fault_at, first_stop, amount}
 use Rattle.tariff.proofs.Checks.{never_clear, first_clear, fault_first}
 use Rattle.intervals.specs.declared.steps.Walked.{Walked}
@@ -66,7 +65,7 @@ abbrev pub walked : (found : Found) → List Grains → Walked
 walked found parts = record { found = found; parts = parts }
 
 module _ {outcome : ℕ → Outcome} {n : ℕ} {parts : List Grains} {i : ℕ} (w : Walking outcome n parts i) where
-  pub walk_ends : n ≤ i → WalkedTo outcome n (walked Nothing parts)
+  pub walk_ends : n ≤ i → WalkedTo outcome n (walked (Ok tt) parts)
   walk_ends u =
       let same : i ≡ n = let v = w.within in omega arith in
       record {
@@ -78,7 +77,7 @@ module _ {outcome : ℕ → Outcome} {n : ℕ} {parts : List Grains} {i : ℕ} (
       }
 
   module _ (more : i < n) where
-    pub walk_stops : (check : Check) → outcome i ≡ stops (number_of check) → place_of check ≡ i + 1 → WalkedTo outcome n (walked (Fault check) parts)
+    pub walk_stops : (check : Check) → outcome i ≡ stops (number_of check) → place_of check ≡ i + 1 → WalkedTo outcome n (walked (Err check) parts)
     unfolding first_stop
     walk_stops check e p =
         let each : ℕ → Verdict = λ k. fault_at k (outcome k) in

@@ -1,10 +1,10 @@
 -- What every check of an hour but ROOM finds and the intervals come to, by the way that the work ends.
+use Rattle.std.specs.Prelude.{Err, Ok}
 use mathlib.Core.Path.{◌≡◌, refl, sym, ap, ◌∙◌}
 use Prim.Native.Nat.{ℕ, ◌<◌, ◌≤◌}
 use Rattle.exact.specs.Whole.{sum_to}
 use Rattle.exact.proofs.Sums.{sum_same}
 use Rattle.tariff.specs.declared.Check.{Check}
-use Rattle.tariff.specs.declared.Found.TheVariants.{Nothing, Fault}
 use Rattle.tariff.specs.declared.Grains.{Grains}
 use Rattle.tariff.specs.declared.Expected.{Expected}
 use Rattle.tariff.specs.Outcome.{Outcome, fault_at, first_stop, amount, sum_by}
@@ -39,7 +39,7 @@ contributions_alike {block} {tasks} {outcome} {n} b same r w =
     }
 
 module _ {block : Verdict} {outcome : ℕ → Outcome} {n : ℕ} where
-  refused : (r : Contributions) (check : Check) → r ≡ refused_by (Fault check) → (block then first_stop outcome n) ≡ shown (Fault check)
+  refused : (r : Contributions) (check : Check) → r ≡ refused_by (Err check) → (block then first_stop outcome n) ≡ shown (Err check)
       → ContributionsBy block outcome n r
   refused r check f e =
       rw f
@@ -53,17 +53,17 @@ module _ {block : Verdict} {outcome : ℕ → Outcome} {n : ℕ} where
         refused = λ other q. ap refused_by q;
       }
 
-  pub refused_by_block : (r : Contributions) (check : Check) → r ≡ refused_by (Fault check) → block ≡ shown (Fault check) → ContributionsBy block outcome n r
+  pub refused_by_block : (r : Contributions) (check : Check) → r ≡ refused_by (Err check) → block ≡ shown (Err check) → ContributionsBy block outcome n r
   refused_by_block r check f b = refused r check f (rw b)
 
   module _ (b : block ≡ clear) where
-    pub refused_by_walk : (r : Contributions) (check : Check) → r ≡ refused_by (Fault check) → first_stop outcome n ≡ shown (Fault check)
+    pub refused_by_walk : (r : Contributions) (check : Check) → r ≡ refused_by (Err check) → first_stop outcome n ≡ shown (Err check)
         → ContributionsBy block outcome n r
     refused_by_walk r check f w = refused r check f (rw (b, w))
 
     -- the walk found nothing: its parts, and their sum
-    pub worked_out_lem : n ≤ 30 → (w : Walked) → WalkedTo outcome n w → w.found ≡ Nothing → (sum : Grains) → sum.0 ≡ sum_to (grains_at w.parts) n
-        → ContributionsBy block outcome n (record { found = Nothing; parts = w.parts; sum = sum })
+    pub worked_out_lem : n ≤ 30 → (w : Walked) → WalkedTo outcome n w → w.found ≡ Ok tt → (sum : Grains) → sum.0 ≡ sum_to (grains_at w.parts) n
+        → ContributionsBy block outcome n (record { found = Ok tt; parts = w.parts; sum = sum })
     unfolding sum_by
     worked_out_lem few w of f sum s =
         let clean : shown w.found ≡ clear = ap shown f in

@@ -1,13 +1,11 @@
 -- What an interval asks of the walk: a stretch of one curve to price, and what to make of its cost.
-use Rattle.std.specs.Prelude.{if◌then◌else◌, ◌≡◌, Bool, true, List, ℕ, ◌+◌, ◌<◌, ◌≤◌, length, get_or, ℤ, pos, ◌+ℤ◌, ◌-ℤ◌, ◌*ℤ◌}
+use Rattle.std.specs.Prelude.{if◌then◌else◌, ◌≡◌, Bool, true, List, ℕ, ◌+◌, ◌<◌, ◌≤◌, length, get_or, ℤ, pos, ◌+ℤ◌, ◌-ℤ◌, ◌*ℤ◌, Err, Ok}
 use Rattle.std.specs.Int.Signed.{lt_z}
 use Rattle.exact.specs.Whole.{min_z, max_z, span, Within}
 use Rattle.tariff.specs.declared.Check.{Check}
 use Rattle.tariff.specs.declared.Check.TheVariants.{Derate, Point}
 use Rattle.tariff.specs.declared.Curve.{Curve}
 use Rattle.tariff.specs.declared.DayAhead.{DayAhead}
-use Rattle.tariff.specs.declared.Found.{Found}
-use Rattle.tariff.specs.declared.Found.TheVariants.{Nothing, Fault}
 use Rattle.tariff.specs.declared.Hour.{Hour}
 use Rattle.tariff.specs.declared.IclHour.{IclHour}
 use Rattle.tariff.specs.declared.Interval.{Interval}
@@ -18,7 +16,7 @@ use Rattle.tariff.specs.Derate.{exceeds_room, reduced}
 use Rattle.tariff.specs.Point.{point_of}
 use Rattle.tariff.specs.Contributions.{curve_in, lower_in, limit_in, other_than_energy}
 use Rattle.tariff.specs.Sheet.{curve_in_range}
-use Rattle.tariff.specs.Reply.{REACH, number_of, place_of}
+use Rattle.tariff.specs.Reply.{REACH, number_of, place_of, Found}
 use Rattle.tariff.specs.Hour.{interval}
 use Rattle.tariff.specs.Controllable.{icl_interval}
 use Rattle.tariff.specs.Outcome.{Outcome, gives, stops}
@@ -30,7 +28,7 @@ use Rattle.intervals.specs.declared.steps.Run.{Run}
 abbrev pub ready_task : DayAhead → Interval → (E : ℤ) → Task
 ready_task a v E =
     record {
-      stop = Nothing;
+      stop = Ok tt;
       lower = lower_in a v;
       from = kw (reduced a v 0);
       limit = kw (limit_in a v E);
@@ -42,28 +40,28 @@ ready_task a v E =
 
 -- an interval whose reduction exceeds the room is stopped at its place
 unfoldable pub derated_task : DayAhead → Interval → (place : ℕ) → (E : ℤ) → Task
-derated_task a v place E = if exceeds_room a v then idle_task (Fault (Derate place)) else ready_task a v E
+derated_task a v place E = if exceeds_room a v then idle_task (Err (Derate place)) else ready_task a v E
 
 -- so is one without an operating point, before that
 abbrev pub pointed_task : (place : ℕ) → Amount → (ℤ → Task) → Task
 pointed_task place (known E) task = task E
-pointed_task place none task = idle_task (Fault (Point place))
+pointed_task place none task = idle_task (Err (Point place))
 
 -- a lagging interval asks nothing
 unfoldable pub task_of : (rt : Curve) → DayAhead → Interval → (place : ℕ) → Task
-task_of rt a v place = if lags v then idle_task Nothing else pointed_task place (point_of rt v) (derated_task a v place)
+task_of rt a v place = if lags v then idle_task (Ok tt) else pointed_task place (point_of rt v) (derated_task a v place)
 
 -- task i, from 0
 abbrev pub task_at : List Task → ℕ → Task
-task_at tasks i = get_or tasks i (idle_task Nothing)
+task_at tasks i = get_or tasks i (idle_task (Ok tt))
 
 -- what interval i of an hour asks, from 0: of an excluded hour nothing
 abbrev pub asked : Hour → Bool → ℕ → Task
-asked h is_excluded i = if is_excluded then idle_task Nothing else task_of h.rt h.ahead (interval h i) (i + 1)
+asked h is_excluded i = if is_excluded then idle_task (Ok tt) else task_of h.rt h.ahead (interval h i) (i + 1)
 
 -- and of an internal controllable line's
 abbrev pub icl_asked : IclHour → Bool → ℕ → Task
-icl_asked h is_excluded i = if is_excluded then idle_task Nothing else icl_task_of h.dasi h.dasw (icl_interval h i)
+icl_asked h is_excluded i = if is_excluded then idle_task (Ok tt) else icl_task_of h.dasi h.dasw (icl_interval h i)
 
 -- the first n tasks
 pub record TasksOf (task : ℕ → Task) (n : ℕ) (tasks : List Task) : Type 0 where
@@ -109,8 +107,8 @@ of_cost t none = stops REACH
 
 -- a task that a check stops is not priced
 abbrev pub unless_stopped : Found → Outcome → Outcome
-unless_stopped Nothing outcome = outcome
-unless_stopped (Fault check) outcome = stops (number_of check)
+unless_stopped (Ok tt) outcome = outcome
+unless_stopped (Err check) outcome = stops (number_of check)
 
 abbrev pub of_task : (da rt : Curve) → Task → Outcome
 of_task da rt t = unless_stopped t.stop (of_cost t (cost_up (curve_in t.lower da rt) (low_of t) (high_of t) t.s.0))
@@ -131,6 +129,6 @@ pub record Fitting (t : Task) : Type 0 where
 pub record Walkable (tasks : List Task) (n : ℕ) (da rt : Curve) : Type 0 where
   pub few : n ≤ 30
   pub fits : (i : ℕ) → i < n → Fitting (task_at tasks i)
-  pub placed : (i : ℕ) → i < n → (check : Check) → (task_at tasks i).stop ≡ Fault check → place_of check ≡ i + 1
+  pub placed : (i : ℕ) → i < n → (check : Check) → (task_at tasks i).stop ≡ Err check → place_of check ≡ i + 1
   pub steps : (lower : Bool) → (curve_in lower da rt).n ≤ 12
   pub in_range : (lower : Bool) → curve_in_range (curve_in lower da rt) ≡ true

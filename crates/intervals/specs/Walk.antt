@@ -1,15 +1,13 @@
 -- What the walk over an hour's intervals finds and writes, whatever the intervals come to.
-use Rattle.std.specs.Prelude.{◌≡◌, Bool, List, ℕ, ◌<◌, ◌≤◌, length, get_or, replicate, ℤ, pos}
+use Rattle.std.specs.Prelude.{◌≡◌, Bool, List, ℕ, ◌<◌, ◌≤◌, length, get_or, replicate, ℤ, pos, Err}
 use Rattle.exact.specs.Whole.{Within}
 use Rattle.tariff.specs.declared.Grains.{Grains}
 use Rattle.tariff.specs.declared.Check.{Check}
-use Rattle.tariff.specs.declared.Found.{Found}
-use Rattle.tariff.specs.declared.Found.TheVariants.{Fault}
 use Rattle.tariff.specs.declared.Hour.{Hour}
 use Rattle.tariff.specs.declared.IclHour.{IclHour}
 use Rattle.tariff.specs.declared.Expected.{Expected}
 use Rattle.tariff.specs.Units.{grains}
-use Rattle.tariff.specs.Reply.{Verdict, shown, clear, ◌then◌}
+use Rattle.tariff.specs.Reply.{Verdict, shown, clear, ◌then◌, Found}
 use Rattle.tariff.specs.Outcome.{Outcome, first_stop, amount, sum_by}
 use Rattle.tariff.specs.Hour.{block_fault, outcome_at}
 use Rattle.tariff.specs.Controllable.{icl_fault, icl_outcome_at}
@@ -44,7 +42,7 @@ pub record ContributionsBy (block : Verdict) (outcome : ℕ → Outcome) (n : �
   pub written : shown r.found ≡ clear → (i : ℕ) → i < n → grains_at r.parts i ≡ amount (outcome i)
   pub rest : shown r.found ≡ clear → (i : ℕ) → n ≤ i → grains_at r.parts i ≡ pos 0
   pub sum : shown r.found ≡ clear → r.sum.0 ≡ sum_by outcome n
-  pub refused : (check : Check) → r.found ≡ Fault check → r ≡ refused_by (Fault check)
+  pub refused : (check : Check) → r.found ≡ Err check → r ≡ refused_by (Err check)
 
 -- a generator's hour: every check of an hour but ROOM
 abbrev pub ContributionsOf : Hour → Bool → Expected → Contributions → Type 0

@@ -2,7 +2,7 @@
 ghost use Rattle.std.specs.Prelude.{◌≤◌};
 ghost use Rattle.intervals.specs.Task.{icl_asked, TasksOf};
 
-use tariff::{Found, IclHour};
+use tariff::IclHour;
 use tasks::Task;
 
 // What each interval asks, first to last. An hour that is not marked asks check 7 of no interval, and each contributes nothing.
@@ -10,7 +10,7 @@ pub fn tasks_of(h: IclHour, excluded: bool) -> [Task; 30]
     requires { h.n ≤ 30 }
     ensures { TasksOf (icl_asked h excluded) h.n result }
 {
-    let mut tasks = [tasks::idle(Found::Nothing); 30];
+    let mut tasks = [tasks::idle(Ok(())); 30];
     if excluded {
         return tasks;
     }

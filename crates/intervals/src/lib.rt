@@ -9,7 +9,7 @@ ghost use Rattle.tariff.specs.Import.{import_fault, import_part, worth_by, worth
 ghost use Rattle.intervals.specs.Task.{outcomes_of, Walkable};
 ghost use Rattle.intervals.specs.Walk.{grains_at, Bounded, refused_by, ContributionsBy, ContributionsOf, IclContributionsOf};
 
-use tariff::{Curve, Expected, Found, Grains, Hour, IclHour, ImportHour, Worth};
+use tariff::{Check, Curve, Expected, Grains, Hour, IclHour, ImportHour};
 use tasks::Task;
 
 mod controllable;
@@ -23,7 +23,7 @@ mod walk;
 // The first fault of every check of an hour but ROOM; where there is none, the contributions of the hour's intervals, first to last, and their sum.
 #[derive(Clone, Copy)]
 pub struct Contributions {
-    pub found: Found,
+    pub found: Result<(), Check>,
     pub parts: [Grains; 30],
     pub sum: Grains,
 }
@@ -44,7 +44,7 @@ fn sum_of(parts: [Grains; 30], n: usize) -> Grains
 }
 
 // What a refused hour comes to: nothing.
-fn refused_by(found: Found) -> Contributions
+fn refused_by(found: Result<(), Check>) -> Contributions
     ensures { result ≡ refused_by found }
 {
     Contributions {
@@ -61,13 +61,13 @@ fn worked_out(tasks: [Task; 30], n: usize, da: Curve, rt: Curve) -> Contribution
 {
     let w = walk::walk(tasks, n, da, rt);
     let found = w.found;
-    if let Found::Fault(check) = found {
-        return refused_by(Found::Fault(check));
+    if let Err(check) = found {
+        return refused_by(Err(check));
     }
     let parts = w.parts;
     let sum = sum_of(parts, n);
     Contributions {
-        found: Found::Nothing,
+        found: Ok(()),
         parts,
         sum,
     }
@@ -78,8 +78,8 @@ pub fn work_out(h: Hour, excluded: bool, expected: Expected) -> Contributions
     ensures { ContributionsOf h excluded expected result }
 {
     let fault = checks::block_fault(h, expected);
-    if let Found::Fault(check) = fault {
-        return refused_by(Found::Fault(check));
+    if let Err(check) = fault {
+        return refused_by(Err(check));
     }
     let tasks = prepare::tasks_of(h, excluded);
     worked_out(tasks, h.n, h.da, h.rt)
@@ -90,21 +90,21 @@ pub fn work_out_icl(h: IclHour, excluded: bool, expected: Expected) -> Contribut
     ensures { IclContributionsOf h excluded expected result }
 {
     let fault = checks::icl_fault(h, expected);
-    if let Found::Fault(check) = fault {
-        return refused_by(Found::Fault(check));
+    if let Err(check) = fault {
+        return refused_by(Err(check));
     }
     let tasks = controllable::tasks_of(h, excluded);
     worked_out(tasks, h.n, h.da, h.rt)
 }
 
 // What the block at place k gives to an import's day of so many hours: the sum of its counting intervals, or 0 where that is below 0.
-pub fn import_part(h: ImportHour, cts: i64, k: usize, hours: usize) -> Worth
+pub fn import_part(h: ImportHour, cts: i64, k: usize, hours: usize) -> Result<Grains, Check>
     ensures { worth_told result ≡ worth_by (import_fault hours h k) (import_part cts h) }
 {
     let fault = checks::import_fault(h, k, hours);
-    if let Found::Fault(check) = fault {
-        return Worth::Refused(check);
+    if let Err(check) = fault {
+        return Err(check);
     }
     let sum = curtailed::curtailed_sum(h, cts);
-    Worth::Part(units::gain_or_zero(sum))
+    Ok(units::gain_or_zero(sum))
 }

@@ -10,7 +10,7 @@ ghost use Rattle.intervals.specs.Task.{derated_task, task_of, asked, TasksOf};
 
 use crate::{others, sums};
 use points::Standing;
-use tariff::{Check, Curve, DayAhead, Found, Grains, Hour, Interval, Kw};
+use tariff::{Check, Curve, DayAhead, Grains, Hour, Interval, Kw};
 use tasks::Task;
 
 // Output above the schedule and its compensable overgeneration is not counted, where the schedule is above 0.
@@ -32,7 +32,7 @@ pub fn derated_task(a: DayAhead, v: Interval, e: Kw, place: usize) -> Task
 {
     let q = derate::derate_of(a, v);
     if q.exceeds {
-        return tasks::idle(Found::Fault(Check::Derate(place)));
+        return tasks::idle(Err(Check::Derate(place)));
     }
     let schedules = q.schedules;
     let from = schedules[0];
@@ -42,7 +42,7 @@ pub fn derated_task(a: DayAhead, v: Interval, e: Kw, place: usize) -> Task
     let pen = v.pen;
     let s = v.s;
     Task {
-        stop: Found::Nothing,
+        stop: Ok(()),
         lower: limits::is_lower(from, live),
         from,
         limit,
@@ -59,8 +59,8 @@ pub fn task_of(rt: Curve, a: DayAhead, v: Interval, place: usize) -> Task
     ensures { result ≡ task_of rt a v place }
 {
     match points::standing_of(rt, v) {
-        Standing::Lags => tasks::idle(Found::Nothing),
-        Standing::Pointless => tasks::idle(Found::Fault(Check::Point(place))),
+        Standing::Lags => tasks::idle(Ok(())),
+        Standing::Pointless => tasks::idle(Err(Check::Point(place))),
         Standing::At(e) => derated_task(a, v, e, place),
     }
 }
@@ -71,7 +71,7 @@ pub fn tasks_of(h: Hour, excluded: bool) -> [Task; 30]
     requires { (form h ≡ clear) × (expected : Expected) × (range h expected ≡ clear) }
     ensures { TasksOf (asked h excluded) h.n result }
 {
-    let mut tasks = [tasks::idle(Found::Nothing); 30];
+    let mut tasks = [tasks::idle(Ok(())); 30];
     if excluded {
         return tasks;
     }

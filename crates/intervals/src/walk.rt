@@ -8,7 +8,7 @@ ghost use Rattle.intervals.specs.Walk.{WalkedTo};
 
 use crate::steps::{Run, Walked};
 use crate::sums;
-use tariff::{Check, Curve, Found, Grains, Kw, Price, Seconds};
+use tariff::{Check, Curve, Grains, Kw, Price, Seconds};
 use tasks::Task;
 
 pub fn curve_for(lower: bool, da: Curve, rt: Curve) -> Curve
@@ -95,25 +95,25 @@ pub fn walk(tasks: [Task; 30], n: usize, da: Curve, rt: Curve) -> Walked
     let mut i: usize = 0;
     let found = 'hour: loop {
         if n <= i {
-            break 'hour Found::Nothing;
+            break 'hour Ok(());
         }
         let place = i + 1;
         let t = tasks[i];
         let stop = t.stop;
-        if let Found::Fault(check) = stop {
-            break 'hour Found::Fault(check);
+        if let Err(check) = stop {
+            break 'hour Err(check);
         }
         let c = curve_for(t.lower, da, rt);
         let high = units::kw_max(t.from, t.limit);
         let mut run = run_from(t);
         if units::below(run.at, high) {
             if units::below(run.at, c.start) {
-                break 'hour Found::Fault(Check::Reach(place));
+                break 'hour Err(Check::Reach(place));
             }
             let mut j: usize = 0;
             'scan: loop {
                 if c.n <= j {
-                    break 'hour Found::Fault(Check::Reach(place));
+                    break 'hour Err(Check::Reach(place));
                 }
                 run = run_on(run, high, c.to[j], c.at[j], t.s);
                 if !units::below(run.at, high) {

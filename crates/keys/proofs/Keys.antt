@@ -1,12 +1,11 @@
 -- The table of keys, key by key, as the code goes through it.
+use Rattle.std.specs.Prelude.{Some}
 use mathlib.Core.Path.{◌≡◌, sym, ap, ◌∙◌}
 use mathlib.Core.List.{List, []}
 use Prim.Native.Nat.{ℕ, zero, suc, ◌+◌, ◌-◌, ◌≤◌}
 use native.Mathlib.Omega.{arith}
 use lib.ListN.{get_or-eq_default}
-use Rattle.text.specs.Text.{key_at}
-use Rattle.text.specs.declared.Next.{Next}
-use Rattle.text.specs.declared.Next.TheVariants.{At}
+use Rattle.text.specs.Text.{key_at, Next}
 use Rattle.keys.specs.Keys.{AHEAD, KEYS, keys, key_of}
 
 -- the key of number n behind a kind's first is that of k, where k is n
@@ -30,6 +29,6 @@ none_below k zero r = omega arith
 none_below k (suc n) r = let l = none_below k n r.0 in let e = r.1 in omega arith
 
 -- past the table stands the empty key
-pub key_none : (k : ℕ) (s : List ℕ) (at : ℕ) → KEYS ≤ k → At at ≡ key_at (key_of k) s at
+pub key_none : (k : ℕ) (s : List ℕ) (at : ℕ) → KEYS ≤ k → Some at ≡ key_at (key_of k) s at
 unfolding key_at
 key_none k s at h = ap (λ (key : List ℕ). key_at key s at) (sym (get_or-eq_default keys [] h))

@@ -5,7 +5,6 @@ ghost use Rattle.std.specs.Prelude.{◌≡◌};
 ghost use Rattle.text.specs.Text.{key_at};
 ghost use Rattle.keys.specs.Keys.{key_of, may_miss};
 
-use text::Next;
 
 mod table;
 
@@ -81,7 +80,7 @@ pub fn may_miss(k: usize) -> bool
 }
 
 // Key k at a place. A number past the table's is the empty key, which stands anywhere.
-pub fn key_number(s: &[u8], at: usize, k: usize) -> Next
+pub fn key_number(s: &[u8], at: usize, k: usize) -> Option<usize>
     ensures { result ≡ key_at (key_of k) s.now at }
 {
     if k < INTERVAL {
@@ -111,5 +110,5 @@ pub fn key_number(s: &[u8], at: usize, k: usize) -> Next
     if k < KEYS {
         return table::icl_key(s, at, k - LINE_LINE);
     }
-    Next::At(at)
+    Some(at)
 }

@@ -4,10 +4,9 @@ ghost use Rattle.std.specs.Prelude.{◌≡◌, ◌+◌, ◌<◌};
 ghost use Rattle.text.specs.Text.{key_at};
 ghost use Rattle.keys.specs.Keys.{AHEAD, DA, INTERVAL, RESERVES, REGULATION, IMPORT, CURTAILED, HEADER, LINE_LINE, key_of};
 
-use text::Next;
 
 // Line 1 of an hour block.
-pub fn ahead_key(s: &[u8], at: usize, k: usize) -> Next
+pub fn ahead_key(s: &[u8], at: usize, k: usize) -> Option<usize>
     requires { k < 10 }
     ensures { result ≡ key_at (key_of (AHEAD + k)) s.now at }
 {
@@ -26,7 +25,7 @@ pub fn ahead_key(s: &[u8], at: usize, k: usize) -> Next
 }
 
 // The two curve lines, and the pairs of both.
-pub fn curve_key(s: &[u8], at: usize, k: usize) -> Next
+pub fn curve_key(s: &[u8], at: usize, k: usize) -> Option<usize>
     requires { k < 6 }
     ensures { result ≡ key_at (key_of (DA + k)) s.now at }
 {
@@ -41,7 +40,7 @@ pub fn curve_key(s: &[u8], at: usize, k: usize) -> Next
 }
 
 // Time and energy of an interval line.
-pub fn energy_key(s: &[u8], at: usize, k: usize) -> Next
+pub fn energy_key(s: &[u8], at: usize, k: usize) -> Option<usize>
     requires { k < 8 }
     ensures { result ≡ key_at (key_of (INTERVAL + k)) s.now at }
 {
@@ -58,7 +57,7 @@ pub fn energy_key(s: &[u8], at: usize, k: usize) -> Next
 }
 
 // Its reserves.
-pub fn reserve_key(s: &[u8], at: usize, k: usize) -> Next
+pub fn reserve_key(s: &[u8], at: usize, k: usize) -> Option<usize>
     requires { k < 6 }
     ensures { result ≡ key_at (key_of (RESERVES + k)) s.now at }
 {
@@ -73,7 +72,7 @@ pub fn reserve_key(s: &[u8], at: usize, k: usize) -> Next
 }
 
 // Its regulation and movement.
-pub fn regulation_key(s: &[u8], at: usize, k: usize) -> Next
+pub fn regulation_key(s: &[u8], at: usize, k: usize) -> Option<usize>
     requires { k < 6 }
     ensures { result ≡ key_at (key_of (REGULATION + k)) s.now at }
 {
@@ -88,7 +87,7 @@ pub fn regulation_key(s: &[u8], at: usize, k: usize) -> Next
 }
 
 // An import's first line, and line 1 of its blocks.
-pub fn import_key(s: &[u8], at: usize, k: usize) -> Next
+pub fn import_key(s: &[u8], at: usize, k: usize) -> Option<usize>
     requires { k < 6 }
     ensures { result ≡ key_at (key_of (IMPORT + k)) s.now at }
 {
@@ -103,7 +102,7 @@ pub fn import_key(s: &[u8], at: usize, k: usize) -> Next
 }
 
 // An interval line of an import's block.
-pub fn curtailed_key(s: &[u8], at: usize, k: usize) -> Next
+pub fn curtailed_key(s: &[u8], at: usize, k: usize) -> Option<usize>
     requires { k < 7 }
     ensures { result ≡ key_at (key_of (CURTAILED + k)) s.now at }
 {
@@ -119,7 +118,7 @@ pub fn curtailed_key(s: &[u8], at: usize, k: usize) -> Next
 }
 
 // A day's header, a key to a line.
-pub fn header_key(s: &[u8], at: usize, k: usize) -> Next
+pub fn header_key(s: &[u8], at: usize, k: usize) -> Option<usize>
     requires { k < 11 }
     ensures { result ≡ key_at (key_of (HEADER + k)) s.now at }
 {
@@ -139,7 +138,7 @@ pub fn header_key(s: &[u8], at: usize, k: usize) -> Next
 }
 
 // An internal controllable line: the keys of its header, of line 1 of its blocks, and of their interval lines.
-pub fn icl_key(s: &[u8], at: usize, k: usize) -> Next
+pub fn icl_key(s: &[u8], at: usize, k: usize) -> Option<usize>
     requires { k < 11 }
     ensures { result ≡ key_at (key_of (LINE_LINE + k)) s.now at }
 {

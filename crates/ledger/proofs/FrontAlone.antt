@@ -5,12 +5,11 @@ use mathlib.Core.List.{List, [], ◌∷◌, ◌++◌}
 use Prim.Native.Nat.{ℕ, zero, suc, ◌<◌, ◌≤◌}
 use mathlib.Core.Logic.{inl, inr, ⊎_elim}
 use native.Mathlib.Omega.{arith}
-use Rattle.std.specs.Prelude.{if◌then◌else◌}
+use Rattle.std.specs.Prelude.{if◌then◌else◌, Some}
 use Rattle.exact.specs.Whole.{eq_z}
 use Rattle.exact.proofs.Parts.{by_test, true-eq_z, eq_z-true}
 use Rattle.tariff.specs.Reply.{RANGE, Finding, Verdict, clear, fault, unless, ◌then◌, put_in}
 use Rattle.tariff.proofs.Checks.{never_clear, then_clear, put_clear, unless_clear}
-use Rattle.text.specs.declared.Next.TheVariants.{At}
 use Rattle.lines.specs.Cut.{empty_in, behind}
 use Rattle.lines.specs.Pieces.{rest_after, first_piece, piece}
 use Rattle.lines.proofs.Closed.{closed_first, closed_behind}
@@ -73,13 +72,13 @@ module _ (t own : List ℕ) where
 
 -- ---- a header that is read is closed by its empty line, and so is one that is lacking
 
-lacking_closed : (t : List ℕ) → is_lacking t ≡ true → empty_in true t 0 ≡ At 1
+lacking_closed : (t : List ℕ) → is_lacking t ≡ true → empty_in true t 0 ≡ Some 1
 unfolding empty_in
 lacking_closed [] e = absurd (false≢true e)
 lacking_closed (b ∷ t) e = rw e
 
 abbrev Closed : List ℕ → Type 0
-Closed t = (k : ℕ) × (empty_in true t 0 ≡ At k)
+Closed t = (k : ℕ) × (empty_in true t 0 ≡ Some k)
 
 header_closed : (t : List ℕ) → header_fault t ≡ clear → Closed t
 header_closed t e = (_, ends_empty_lem (form_of t) t e)

@@ -1,4 +1,5 @@
 -- The sum of the paid cents, with one answer more: what it is and how large it can be.
+use Rattle.std.specs.Prelude.{None, Some}
 use mathlib.Core.Path.{◌≡◌, refl, sym, ap}
 use Prim.Native.Nat.{ℕ, ◌+◌, ◌^◌, ◌<◌, ◌≤◌}
 use native.Mathlib.Nat.{div-le_of_le-mul}
@@ -15,9 +16,7 @@ use Rattle.tariff.specs.declared.Cents.{Cents}
 use Rattle.tariff.specs.declared.Grains.{Grains}
 use Rattle.tariff.specs.Units.{cents_of}
 use Rattle.tariff.specs.Reply.{Reply, paid, told}
-use Rattle.tariff.specs.declared.Total.{Total}
-use Rattle.tariff.specs.declared.Total.TheVariants.{Of, Withheld}
-use Rattle.tariff.specs.Total.{Sum, total, no_total, told_total}
+use Rattle.tariff.specs.Total.{Sum, total, no_total, told_total, Total}
 use Rattle.tariff.proofs.Totals.{refusal_withholds}
 use Rattle.ledger.specs.Walk.{Rounded, UpToCents, Added}
 
@@ -42,14 +41,14 @@ rounded_most r sum cents h e f = rw (h.cents sum cents e) (cents_most sum f)
 
 -- ---- one answer more
 
-pub add_withheld : (t : Total) (a : Answer) → t ≡ Withheld → Added (told_total t) (told a) no_total
+pub add_withheld : (t : Total) (a : Answer) → t ≡ None → Added (told_total t) (told a) no_total
 add_withheld t a e = rw e (record { told = refl; most = λ N u. none_most (N + 2600000000000) })
 
 pub add_refused : (t : Total) (a : Answer) (check : Check) → a ≡ Refused check → Added (told_total t) (told a) no_total
 add_refused t a check e =
     rw e (record { told = sym (refusal_withholds (told_total t) _ _); most = λ N u. none_most (N + 2600000000000) })
 
-pub add_paid : (t : Total) (a : Answer) (c d : Cents) (g : Grains) (x : ℤ) → t ≡ Of c → a ≡ Paid g d → Within 2600000000000 d.0 → x ≡ c.0 +ℤ d.0
+pub add_paid : (t : Total) (a : Answer) (c d : Cents) (g : Grains) (x : ℤ) → t ≡ Some c → a ≡ Paid g d → Within 2600000000000 d.0 → x ≡ c.0 +ℤ d.0
     → Added (told_total t) (told a) (total x)
 add_paid t a c d g x p q w e =
     rw (p, q)

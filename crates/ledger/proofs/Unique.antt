@@ -1,16 +1,15 @@
 -- No two different replies satisfy the contract of a day call.
+use Rattle.tariff.specs.Reply.{Found}
+use Rattle.std.specs.Prelude.{None, Some}
 use mathlib.Core.Path.{◌≡◌, refl, sym, ap, ◌∙◌}
 use mathlib.Core.List.{List}
 use Prim.Native.Nat.{ℕ}
 use Rattle.exact.proofs.Unique.{OneReply}
-use Rattle.tariff.specs.declared.Found.{Found}
 use Rattle.tariff.specs.Units.{cents}
 use Rattle.tariff.proofs.Demands.{one_finding}
 use Rattle.ledger.specs.declared.Day.{Day}
 use Rattle.tariff.specs.declared.HourAnswer.{HourAnswer}
-use Rattle.tariff.specs.declared.Total.{Total}
-use Rattle.tariff.specs.declared.Total.TheVariants.{Of, Withheld}
-use Rattle.tariff.specs.Total.{Sum, total, no_total, told_total}
+use Rattle.tariff.specs.Total.{Sum, total, no_total, told_total, Total}
 use Rattle.tariff.proofs.HourAnswers.{answers_one}
 use Rattle.ledger.specs.Day.{Front, front_of}
 use Rattle.ledger.specs.IclDay.{icl_front_of}
@@ -19,12 +18,12 @@ use Rattle.ledger.proofs.settle_day.Reads as settle_day
 use Rattle.ledger.proofs.settle_icl_day.Reads as settle_icl_day
 
 abbrev total_told : Sum → Total
-total_told (total c) = Of (cents c)
-total_told no_total = Withheld
+total_told (total c) = Some (cents c)
+total_told no_total = None
 
 total_back : (t : Total) → total_told (told_total t) ≡ t
-total_back (Of c) = refl
-total_back Withheld = refl
+total_back (Some c) = refl
+total_back None = refl
 
 total_one : (t u : Total) → told_total t ≡ told_total u → t ≡ u
 total_one t u e = sym (total_back t) ∙ ap total_told e ∙ total_back u

@@ -1,4 +1,5 @@
 -- The walk over a day's blocks: what stands behind each, the answers and the total so far, and where it ends.
+use Rattle.std.specs.Prelude.{None, Some}
 use mathlib.Core.Path.{◌≡◌, refl, sym, ap, ◌∙◌}
 use mathlib.Core.Bool.{Bool}
 use mathlib.Core.List.{List}
@@ -31,9 +32,7 @@ use Rattle.iclblocks.specs.IclBlock as icl
 use Rattle.iclblocks.specs.IclBlock.{IclBlock, icl_block_of}
 use Rattle.iclsheet.specs.IclSettle.{icl_reply_to}
 use Rattle.tariff.specs.declared.HourAnswer.{HourAnswer}
-use Rattle.tariff.specs.declared.Total.{Total}
-use Rattle.tariff.specs.declared.Total.TheVariants.{Of, Withheld}
-use Rattle.tariff.specs.Total.{sum_of, total_of, told_total, told_all}
+use Rattle.tariff.specs.Total.{sum_of, total_of, told_total, told_all, Total}
 use Rattle.ledger.specs.Day.{BlockAnswer, generator_answer, Front, hour_reply, day_reply}
 use Rattle.ledger.specs.declared.hours.Kind.{Kind}
 use Rattle.ledger.specs.declared.hours.Kind.TheVariants.{Generator, Icl}
@@ -97,7 +96,7 @@ module _ (s : List ℕ) (f : Front) where
     pub most : UpToCents (2600000000000 * k) (told_total t)
 
   pub gone_none : (a : Answer) (at : ℕ) → told a ≡ absent → at ≤ length s → drop at s ≡ f.body
-      → Gone (replicate LONGEST_DAY (hour_answer a)) (Of (cents (pos 0))) at 0
+      → Gone (replicate LONGEST_DAY (hour_answer a)) (Some (cents (pos 0))) at 0
   unfolding rest_after up_to sum_of
   gone_none a at none h e =
       record { inside = h; rest = e; answers_are = told_same a LONGEST_DAY ∙ ap (replicate LONGEST_DAY) none; sum = refl; most = nothing_most }
@@ -129,7 +128,7 @@ module _ (s : List ℕ) (f : Front) where
     held : told_all answers ≡ held_replies f
     held = g.answers_are ∙ ap (λ (v : Verdict). filled f.hours LONGEST_DAY (day_reply f) (otherwise v absent)) (sym c)
 
-    pub more_follows : i < length s → SettledTo f (record { hours = answers; total = Withheld })
+    pub more_follows : i < length s → SettledTo f (record { hours = answers; total = None })
     unfolding total_of
     more_follows h = record { answers = held; sum = rw (← g.rest, some_left s i h) }
 

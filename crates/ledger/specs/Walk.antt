@@ -1,11 +1,9 @@
 -- What the code hands on from a day's front to the walk over its blocks, and what the walk gives: an answer for each, by a word of
 -- excluded hours, and their total. And what a refused front gives instead.
-use Rattle.std.specs.Prelude.{◌≡◌, false, List, ℕ, ◌+◌, ◌<◌, ◌≤◌, ℤ, length, drop, replicate}
+use Rattle.std.specs.Prelude.{◌≡◌, false, List, ℕ, ◌+◌, ◌<◌, ◌≤◌, ℤ, length, drop, replicate, Err, None}
 use Rattle.exact.specs.Whole.{Within}
 use Rattle.tariff.specs.declared.Answer.TheVariants.{Refused}
 use Rattle.tariff.specs.declared.Check.{Check}
-use Rattle.tariff.specs.declared.Found.TheVariants.{Fault}
-use Rattle.tariff.specs.declared.Total.TheVariants.{Withheld}
 use Rattle.tariff.specs.Units.{cents_of}
 use Rattle.tariff.specs.Sheet.{LONGEST_DAY}
 use Rattle.tariff.specs.Reply.{Reply, paid, refused, FORM, Finding, clear, otherwise, shown}
@@ -99,7 +97,7 @@ pub record SettledTo (f : Front) (r : Settled) : Type 0 where
 
 abbrev pub refused_day : Check → (header count : ℕ) → Day
 refused_day check header count =
-    record { found = Fault check; header = header; count = count; hours = replicate LONGEST_DAY (record { answer = Refused check }); total = Withheld }
+    record { found = Err check; header = header; count = count; hours = replicate LONGEST_DAY (record { answer = Refused check }); total = None }
 
 -- ---- the day of a front: its fault and which header has it, its hours, their answers and the total
 

@@ -4,12 +4,12 @@ ghost use Rattle.ledger.specs.IclDay.{icl_front_of};
 ghost use Rattle.ledger.specs.Walk.{FrontRead};
 
 use crate::heads;
-use tariff::Found;
+use tariff::Check;
 
 // A fault or none, which header has it, how many hours the day has, a bit for each that is excluded, and the place of the first block.
 #[derive(Clone, Copy)]
 pub struct Front {
-    pub found: Found,
+    pub found: Result<(), Check>,
     pub header: usize,
     pub hours: usize,
     pub excluded: u32,

@@ -5,13 +5,13 @@ ghost use Rattle.tariff.specs.Eligible.{no_day};
 ghost use Rattle.ledger.specs.Headers.{headers_fault};
 ghost use Rattle.ledger.specs.Walk.{OwnRead, NeighbourRead, JudgedAs};
 
-use tariff::{Check, Found, MarkedDay};
+use tariff::{Check, MarkedDay};
 
 // One of the headers: whether it is lacking, its fault or none, its unit, the line of that, and what it says of its day.
 #[derive(Clone, Copy)]
 pub struct Head {
     pub lacking: bool,
-    pub found: Found,
+    pub found: Result<(), Check>,
     pub unit: i64,
     pub line: usize,
     pub day: MarkedDay,
@@ -20,7 +20,7 @@ pub struct Head {
 // A fault or none, and the number of the header that has it.
 #[derive(Clone, Copy)]
 pub struct Judged {
-    pub found: Found,
+    pub found: Result<(), Check>,
     pub header: usize,
 }
 
@@ -63,7 +63,7 @@ pub fn read_neighbour(text: &[u8], at: usize) -> Head
     if text::byte_at(text, at) == 10 {
         return Head {
             lacking: true,
-            found: Found::Nothing,
+            found: Ok(()),
             unit: 0,
             line: 0,
             day: no_day(),
@@ -84,31 +84,31 @@ pub fn judge(before: Head, own: Head, after: Head) -> Judged
     ensures { (b o a : List ℕ) → NeighbourRead b before → OwnRead o own → NeighbourRead a after → JudgedAs (headers_fault b o a) result }
 {
     let found = before.found;
-    if let Found::Fault(_) = found {
+    if let Err(_) = found {
         return Judged { found, header: 0 };
     }
     let found = own.found;
-    if let Found::Fault(_) = found {
+    if let Err(_) = found {
         return Judged { found, header: 1 };
     }
     let found = after.found;
-    if let Found::Fault(_) = found {
+    if let Err(_) = found {
         return Judged { found, header: 2 };
     }
     if is_other(before, own) {
         return Judged {
-            found: Found::Fault(Check::Range(before.line)),
+            found: Err(Check::Range(before.line)),
             header: 0,
         };
     }
     if is_other(after, own) {
         return Judged {
-            found: Found::Fault(Check::Range(after.line)),
+            found: Err(Check::Range(after.line)),
             header: 2,
         };
     }
     Judged {
-        found: Found::Nothing,
+        found: Ok(()),
         header: 0,
     }
 }

@@ -6,13 +6,13 @@ ghost use Rattle.tariff.specs.declared.Expected.TheVariants.{Says};
 ghost use Rattle.tariff.specs.Total.{told_total};
 ghost use Rattle.ledger.specs.Walk.{answer_of, Rounded, UpToCents, Added, word_front, SettledTo};
 
-use tariff::{Answer, Cents, Check, Expected, HourAnswer, Total};
+use tariff::{Answer, Cents, Check, Expected, HourAnswer};
 
 // The answers of a day's blocks, and their total.
 #[derive(Clone, Copy)]
 pub struct Settled {
     pub hours: [HourAnswer; tariff::LONGEST_DAY],
-    pub total: Total,
+    pub total: Option<Cents>,
 }
 
 // Whose blocks they are: a generator's, or an internal controllable line's.
@@ -45,15 +45,15 @@ pub fn settle_hour(
 }
 
 // A total with one answer more: 25 hours of 2,600,000,000,000 cents and no more are summed.
-pub fn add(total: Total, answer: Answer) -> Total
+pub fn add(total: Option<Cents>, answer: Answer) -> Option<Cents>
     requires { UpToCents 65000000000000 (told_total total) × Rounded (told answer) }
     ensures { Added (told_total total) (told answer) (told_total result) }
 {
     match total {
-        Total::Withheld => Total::Withheld,
-        Total::Of(sum) => match answer {
-            Answer::Refused(_) => Total::Withheld,
-            Answer::Paid(_, cents) => Total::Of(Cents(sum.0 + cents.0)),
+        None => None,
+        Some(sum) => match answer {
+            Answer::Refused(_) => None,
+            Answer::Paid(_, cents) => Some(Cents(sum.0 + cents.0)),
         },
     }
 }
@@ -66,7 +66,7 @@ pub fn settle_hours(s: &[u8], at: usize, kind: Kind, excluded: u32, hours: usize
     let mut answers = [HourAnswer {
         answer: Answer::Refused(Check::Form(1)),
     }; tariff::LONGEST_DAY];
-    let mut total = Total::Of(Cents(0));
+    let mut total = Some(Cents(0));
     let mut i = at;
     let mut k: usize = 0;
     while k < hours {
@@ -78,7 +78,7 @@ pub fn settle_hours(s: &[u8], at: usize, kind: Kind, excluded: u32, hours: usize
         k += 1;
     }
     if i < s.len() {
-        total = Total::Withheld;
+        total = None;
     }
     Settled {
         hours: answers,

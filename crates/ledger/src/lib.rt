@@ -12,7 +12,7 @@ ghost use Rattle.ledger.specs.Walk.{answer_of, FrontRead, held_replies, refused_
 
 use crate::front::Front;
 use crate::hours::Kind;
-use tariff::{Answer, Check, Found, HourAnswer, Total};
+use tariff::{Answer, Cents, Check, HourAnswer};
 
 mod front;
 mod heads;
@@ -22,11 +22,11 @@ mod hours;
 // stands the answer of an absent block, or the refusal of a refused header.
 #[derive(Clone, Copy)]
 pub struct Day {
-    pub found: Found,
+    pub found: Result<(), Check>,
     pub header: usize,
     pub count: usize,
     pub hours: [HourAnswer; tariff::LONGEST_DAY],
-    pub total: Total,
+    pub total: Option<Cents>,
 }
 
 // A refused header refuses every hour.
@@ -34,13 +34,13 @@ fn refused_day(check: Check, header: usize, count: usize) -> Day
     ensures { result ≡ refused_day check header count }
 {
     Day {
-        found: Found::Fault(check),
+        found: Err(check),
         header,
         count,
         hours: [HourAnswer {
             answer: Answer::Refused(check),
         }; tariff::LONGEST_DAY],
-        total: Total::Withheld,
+        total: None,
     }
 }
 
@@ -52,7 +52,7 @@ fn settle_behind(text: &[u8], front: Front, kind: Kind) -> Day
     let found = front.found;
     let header = front.header;
     let count = front.hours;
-    if let Found::Fault(check) = found {
+    if let Err(check) = found {
         return refused_day(check, header, count);
     }
     let settled = hours::settle_hours(text, front.next, kind, front.excluded, count);

@@ -6,10 +6,8 @@ use Prim.Native.Nat.{ℕ, ◌+◌, ◌*◌, ◌<◌, ◌≤◌}
 use native.Mathlib.Omega.{arith}
 use lib.Dec.{eqb}
 use lib.ListN.{length}
-use Rattle.std.specs.Prelude.{if◌then◌else◌}
-use Rattle.text.specs.declared.Next.{Next}
-use Rattle.text.specs.declared.Next.TheVariants.{At, Wrong}
-use Rattle.text.specs.Text.{byte_at, key_at}
+use Rattle.std.specs.Prelude.{if◌then◌else◌, None, Some}
+use Rattle.text.specs.Text.{byte_at, key_at, Next}
 use Rattle.text.specs.Number.{digit_at}
 use Rattle.lines.specs.Line.{and_then, after_fields, value_in, line_feed, line_at}
 use Rattle.lines.proofs.Along.{Placed, both, neither, Stretch, digit_placed, fields_placed, values_placed}
@@ -18,8 +16,8 @@ pub use Rattle.lines.proofs.Along.{key_short}
 
 -- the same answer of two readings, whose next place, if any, is at most m
 pub data SamePlace (m : ℕ) : Next → Next → Type 0 where
-  goes : (i : ℕ) → i ≤ m → SamePlace m (At i) (At i)
-  stops : SamePlace m Wrong Wrong
+  goes : (i : ℕ) → i ≤ m → SamePlace m (Some i) (Some i)
+  stops : SamePlace m None None
 
 -- a test that two readings share
 pub either : {A : Type 0} (R : A → A → Type 0) {x x' y y' : A} (b : Bool) → R x x' → R y y' → R (if b then x else y) (if b then x' else y')

@@ -10,19 +10,13 @@ use borrow.Author.Tests.{eqb-true, eqb-false, ne_eqb, not-true, leb-true}
 use lib.Dec.{eqb, leb}
 use lib.ListN.{length}
 use lib.IntN.{ℤ, pos, neg_ℤ}
-use Rattle.std.specs.Prelude.{if◌then◌else◌}
+use Rattle.std.specs.Prelude.{if◌then◌else◌, None, Some}
 use Rattle.exact.proofs.Apart.{impossible}
 use Rattle.exact.proofs.Tests.{and_left, and_right}
-use Rattle.text.specs.Text.{byte_at, key_at}
-use Rattle.text.specs.Number.{digit_of, digit_at, more_digits, natural_at, plain, negative, number_at, missing}
+use Rattle.text.specs.Text.{byte_at, key_at, Next}
+use Rattle.text.specs.Number.{digit_of, digit_at, more_digits, natural_at, plain, negative, number_at, missing, Digits, Number}
 use Rattle.keys.specs.Keys.{keys, key_of, may_miss}
 use Rattle.lines.specs.Line.{or_missing, value_at, value_after, field_at, next_of, value_of, and_then, after_fields, value_from, value_in, line_feed, line_at}
-use Rattle.text.specs.declared.digits.Digits.{Digits}
-use Rattle.text.specs.declared.digits.Digits.TheVariants.{Natural, NoDigits}
-use Rattle.text.specs.declared.Number.{Number}
-use Rattle.text.specs.declared.Number.TheVariants.{Got, Bad}
-use Rattle.text.specs.declared.Next.{Next}
-use Rattle.text.specs.declared.Next.TheVariants.{At, Wrong}
 use Rattle.keys.proofs.AllKeys.{table_all}
 
 -- the end of a line, or of the text
@@ -32,24 +26,24 @@ closing b = eqb b 256 || eqb b 10
 -- ---- two readings that are the same, moved: both at f j and g j for a j of which P holds, or neither
 
 pub data Placed (f g : ℕ → ℕ) (P : ℕ → Type 0) : Next → Next → Type 0 where
-  both : (j : ℕ) → P j → Placed f g P (At (f j)) (At (g j))
-  neither : Placed f g P Wrong Wrong
+  both : (j : ℕ) → P j → Placed f g P (Some (f j)) (Some (g j))
+  neither : Placed f g P None None
 
 data DigitsPlaced (f g : ℕ → ℕ) (P : ℕ → Type 0) : Digits → Digits → Type 0 where
-  naturals : (v j : ℕ) → P j → DigitsPlaced f g P (Natural v (f j)) (Natural v (g j))
-  none : DigitsPlaced f g P NoDigits NoDigits
+  naturals : (v j : ℕ) → P j → DigitsPlaced f g P (Some (v, f j)) (Some (v, g j))
+  none : DigitsPlaced f g P None None
 
 data NumberPlaced (f g : ℕ → ℕ) (P : ℕ → Type 0) : Number → Number → Type 0 where
-  numbers : (v : ℤ) (j : ℕ) → P j → NumberPlaced f g P (Got v (f j)) (Got v (g j))
-  bad : NumberPlaced f g P Bad Bad
+  numbers : (v : ℤ) (j : ℕ) → P j → NumberPlaced f g P (Some (v, f j)) (Some (v, g j))
+  bad : NumberPlaced f g P None None
 
-pub never_at : {i : ℕ} → Wrong ≡ At i → ⊥
+pub never_at : {i : ℕ} → None ≡ Some i → ⊥
 never_at e = impossible cc
 
 -- a place behind two readings, one after the other: the first has one
-pub went : (x : Next) (f : ℕ → Next) (k : ℕ) → and_then x f ≡ At k → (i : ℕ) × (x ≡ At i)
-went (At i) f k e = (i, refl)
-went Wrong f k e = absurd (never_at e)
+pub went : (x : Next) (f : ℕ → Next) (k : ℕ) → and_then x f ≡ Some k → (i : ℕ) × (x ≡ Some i)
+went (Some i) f k e = (i, refl)
+went None f k e = absurd (never_at e)
 
 -- two choices by one test
 pub choose : {A : Type 0} (R : A → A → Type 0) (x : Bool) {a b c d : A} → (x ≡ true → R a b) → (x ≡ false → R c d) → R (if x then a else c) (if x then b else d)
@@ -224,7 +218,7 @@ pub record Along (s t : List ℕ) (p q m : ℕ) : Type 0 where
 abbrev pub Moved : (p q m : ℕ) → Next → Next → Type 0
 Moved p q m = Placed (λ j. p + j) (λ j. q + j) (λ j. j ≤ m)
 
-pub unmoved_within : {m : ℕ} {x y : Next} (k : ℕ) → Moved 0 0 m x y → x ≡ At k → k ≤ m
+pub unmoved_within : {m : ℕ} {x y : Next} (k : ℕ) → Moved 0 0 m x y → x ≡ Some k → k ≤ m
 unmoved_within k (both j l) e = let same : 0 + j ≡ k = cc in omega arith
 unmoved_within k neither e = absurd (never_at e)
 

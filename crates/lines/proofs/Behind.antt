@@ -6,9 +6,8 @@ use Prim.Native.Nat.{ℕ, ◌+◌}
 use lib.Dec.{eqb}
 use lib.ListN.{drop}
 use lib.Seq.{drop-drop}
-use Rattle.std.specs.Prelude.{if◌then◌else◌}
+use Rattle.std.specs.Prelude.{if◌then◌else◌, Some}
 use Rattle.exact.proofs.Parts.{by_test}
-use Rattle.text.specs.declared.Next.TheVariants.{At}
 use Rattle.lines.specs.Cut.{empty_in, behind_place, behind}
 
 -- `start` says that a line begins at the text's first byte
@@ -17,13 +16,13 @@ behind_in start [] = []
 behind_in start (b ∷ t) = if start && eqb b 10 then t else behind_in (eqb b 10) t
 
 pub one_byte : (start : Bool) (b : ℕ) (t : List ℕ) (i : ℕ)
-    → empty_in start (b ∷ t) i ≡ (if start && eqb b 10 then At (i + 1) else empty_in (eqb b 10) t (i + 1))
+    → empty_in start (b ∷ t) i ≡ (if start && eqb b 10 then Some (i + 1) else empty_in (eqb b 10) t (i + 1))
 unfolding empty_in
 one_byte start b t i = go (eqb b 10) start
   where
     go : (feed start : Bool)
-        → (if feed then (if start then At (i + 1) else empty_in true t (i + 1)) else empty_in false t (i + 1))
-        ≡ (if start && feed then At (i + 1) else empty_in feed t (i + 1))
+        → (if feed then (if start then Some (i + 1) else empty_in true t (i + 1)) else empty_in false t (i + 1))
+        ≡ (if start && feed then Some (i + 1) else empty_in feed t (i + 1))
     go true true = refl
     go true false = refl
     go false true = refl
@@ -40,7 +39,7 @@ module _ (s : List ℕ) where
   behind_from (b ∷ t) i start e =
       rw (one_byte start b t i)
       (by_test (start && eqb b 10)
-      (λ r. behind_place (if r then At (i + 1) else empty_in (eqb b 10) t (i + 1)) s ≡ (if r then t else behind_in (eqb b 10) t))
+      (λ r. behind_place (if r then Some (i + 1) else empty_in (eqb b 10) t (i + 1)) s ≡ (if r then t else behind_in (eqb b 10) t))
       (λ r. rest_moves i b t e)
       (λ r. behind_from t (i + 1) (eqb b 10) (rest_moves i b t e)))
 

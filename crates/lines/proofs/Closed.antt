@@ -7,27 +7,26 @@ use native.Mathlib.Omega.{arith}
 use lib.Dec.{eqb}
 use lib.ListN.{length, take, drop, take-append-drop}
 use lib.Seq.{take-append-le, drop-append-le, take_all, drop-length, length-take-le}
-use Rattle.std.specs.Prelude.{if◌then◌else◌}
-use Rattle.text.specs.declared.Next.TheVariants.{At}
+use Rattle.std.specs.Prelude.{if◌then◌else◌, Some}
 use Rattle.lines.specs.Cut.{empty_in, behind}
 use Rattle.lines.specs.Pieces.{first_piece, OnePiece}
 use Rattle.lines.proofs.Along.{never_at}
 use Rattle.lines.proofs.Cut.{EmptyAt, at_once, behind_line, empty_found, behind_range}
 
 -- an empty line that is found is found whatever follows
-pub empty_append : (start : Bool) (x body : List ℕ) (i k : ℕ) → empty_in start x i ≡ At k → empty_in start (x ++ body) i ≡ At k
+pub empty_append : (start : Bool) (x body : List ℕ) (i k : ℕ) → empty_in start x i ≡ Some k → empty_in start (x ++ body) i ≡ Some k
 unfolding empty_in
 empty_append start [] body i k = λ e. absurd (never_at e)
 empty_append start (b ∷ x) body i k = go (eqb b 10) start (λ s. empty_append s x body (i + 1) k)
   where
-    go : (feed begins : Bool) → ((s : Bool) → empty_in s x (i + 1) ≡ At k → empty_in s (x ++ body) (i + 1) ≡ At k)
-        → (if feed then (if begins then At (i + 1) else empty_in true x (i + 1)) else empty_in false x (i + 1)) ≡ At k
-        → (if feed then (if begins then At (i + 1) else empty_in true (x ++ body) (i + 1)) else empty_in false (x ++ body) (i + 1)) ≡ At k
+    go : (feed begins : Bool) → ((s : Bool) → empty_in s x (i + 1) ≡ Some k → empty_in s (x ++ body) (i + 1) ≡ Some k)
+        → (if feed then (if begins then Some (i + 1) else empty_in true x (i + 1)) else empty_in false x (i + 1)) ≡ Some k
+        → (if feed then (if begins then Some (i + 1) else empty_in true (x ++ body) (i + 1)) else empty_in false (x ++ body) (i + 1)) ≡ Some k
     go true true more e = e
     go true false more e = more true e
     go false begins more e = more false e
 
-module _ (s t : List ℕ) (k : ℕ) (e : empty_in true s 0 ≡ At k) where
+module _ (s t : List ℕ) (k : ℕ) (e : empty_in true s 0 ≡ Some k) where
   inside : k ≤ length s
   inside = (behind_range s 0 k true e).1
 
@@ -55,7 +54,7 @@ module _ (s t : List ℕ) (one : OnePiece s) where
 -- ---- the first piece of a text, where it is closed, is one
 
 -- an empty line among the first bytes is found in them
-empty_within : (start : Bool) (x body : List ℕ) (i k : ℕ) → empty_in start (x ++ body) i ≡ At k → k ≤ i + length x → empty_in start x i ≡ At k
+empty_within : (start : Bool) (x body : List ℕ) (i k : ℕ) → empty_in start (x ++ body) i ≡ Some k → k ≤ i + length x → empty_in start x i ≡ Some k
 unfolding empty_in
 empty_within start [] body i k e u = absurd (go (empty_found start body i k e))
   where
@@ -65,14 +64,14 @@ empty_within start [] body i k e u = absurd (go (empty_found start body i k e))
 empty_within start (b ∷ x) body i k e u = go (eqb b 10) start e (λ s f. empty_within s x body (i + 1) k f (omega arith))
   where
     go : (feed begins : Bool)
-        → (if feed then (if begins then At (i + 1) else empty_in true (x ++ body) (i + 1)) else empty_in false (x ++ body) (i + 1)) ≡ At k
-        → ((s : Bool) → empty_in s (x ++ body) (i + 1) ≡ At k → empty_in s x (i + 1) ≡ At k)
-        → (if feed then (if begins then At (i + 1) else empty_in true x (i + 1)) else empty_in false x (i + 1)) ≡ At k
+        → (if feed then (if begins then Some (i + 1) else empty_in true (x ++ body) (i + 1)) else empty_in false (x ++ body) (i + 1)) ≡ Some k
+        → ((s : Bool) → empty_in s (x ++ body) (i + 1) ≡ Some k → empty_in s x (i + 1) ≡ Some k)
+        → (if feed then (if begins then Some (i + 1) else empty_in true x (i + 1)) else empty_in false x (i + 1)) ≡ Some k
     go true true f more = f
     go true false f more = more true f
     go false begins f more = more false f
 
-module _ (s : List ℕ) (k : ℕ) (e : empty_in true s 0 ≡ At k) where
+module _ (s : List ℕ) (k : ℕ) (e : empty_in true s 0 ≡ Some k) where
   pub first_one : OnePiece (first_piece s)
   unfolding first_piece
   first_one =

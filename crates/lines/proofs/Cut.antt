@@ -10,12 +10,10 @@ use borrow.Author.Tests.{eqb-true}
 use lib.Dec.{eqb, lit<}
 use lib.ListN.{length, get_or, drop, length-drop, drop_of_length-le}
 use lib.Seq.{drop-cons, drop-drop}
-use Rattle.std.specs.Prelude.{if◌then◌else◌}
+use Rattle.std.specs.Prelude.{if◌then◌else◌, None, Some}
 use Rattle.exact.proofs.Parts.{by_test}
-use Rattle.text.specs.Text.{byte_at}
+use Rattle.text.specs.Text.{byte_at, Next}
 use Rattle.text.proofs.Numbers.{byte_inside}
-use Rattle.text.specs.declared.Next.{Next}
-use Rattle.text.specs.declared.Next.TheVariants.{At, Wrong}
 use Rattle.lines.specs.Cut.{empty_in, behind_place, behind}
 use Rattle.lines.proofs.Agree.{either}
 use Rattle.lines.proofs.Along.{never_at}
@@ -23,7 +21,7 @@ use Rattle.lines.proofs.Along.{never_at}
 -- ---- the byte at a place, and the rest of the text
 module _ (s : List ℕ) (i : ℕ) where
   module _ (h : i < length s) where
-    pub empty_here : (start : Bool) → eqb (get_or s i 0) 10 ≡ true → start ≡ true → empty_in start (drop i s) i ≡ At (i + 1)
+    pub empty_here : (start : Bool) → eqb (get_or s i 0) 10 ≡ true → start ≡ true → empty_in start (drop i s) i ≡ Some (i + 1)
     unfolding empty_in
     empty_here start e f = rw (drop-cons s i 0 h, e, f)
 
@@ -37,7 +35,7 @@ module _ (s : List ℕ) (i : ℕ) where
     unfolding empty_in
     not_empty start e = rw (drop-cons s i 0 h, e, add-one i)
 
-  pub never_empty : (start : Bool) → length s ≤ i → empty_in start (drop i s) i ≡ Wrong
+  pub never_empty : (start : Bool) → length s ≤ i → empty_in start (drop i s) i ≡ None
   unfolding empty_in
   never_empty start h = rw (drop_of_length-le s h)
 
@@ -55,21 +53,21 @@ begun : (start : Bool) (b : ℕ) (t : List ℕ) (i j : ℕ) → b ≡ 10 → Emp
 begun start b t i j e (at_once s f h) = behind_line 0 e f (omega arith)
 begun start b t i j e (behind_line m f g h) = further start b t i j (behind_line m f g h)
 
-pub empty_found : (start : Bool) (t : List ℕ) (i j : ℕ) → empty_in start t i ≡ At j → EmptyAt start t i j
+pub empty_found : (start : Bool) (t : List ℕ) (i j : ℕ) → empty_in start t i ≡ Some j → EmptyAt start t i j
 unfolding empty_in
 empty_found start [] i j = λ e. absurd (never_at e)
 empty_found start (b ∷ t) i j =
-    by_test (eqb b 10) (λ x. (if x then (if start then At (i + 1) else empty_in true t (i + 1)) else empty_in false t (i + 1)) ≡ At j → EmptyAt start (b ∷ t) i j)
+    by_test (eqb b 10) (λ x. (if x then (if start then Some (i + 1) else empty_in true t (i + 1)) else empty_in false t (i + 1)) ≡ Some j → EmptyAt start (b ∷ t) i j)
     (λ h. feed start (eqb-true b 10 h) (empty_found true t (i + 1) j))
     (λ h e. further start b t i j (empty_found false t (i + 1) j e))
   where
-    feed : (x : Bool) → b ≡ 10 → (empty_in true t (i + 1) ≡ At j → EmptyAt true t (i + 1) j)
-        → (if x then At (i + 1) else empty_in true t (i + 1)) ≡ At j → EmptyAt x (b ∷ t) i j
+    feed : (x : Bool) → b ≡ 10 → (empty_in true t (i + 1) ≡ Some j → EmptyAt true t (i + 1) j)
+        → (if x then Some (i + 1) else empty_in true t (i + 1)) ≡ Some j → EmptyAt x (b ∷ t) i j
     feed true h f e = at_once refl h (cc)
     feed false h f e = begun false b t i j h (f e)
 
 -- so behind the place from which it was looked for, and in the text
-pub behind_range : (s : List ℕ) (at i : ℕ) (start : Bool) → empty_in start (drop at s) at ≡ At i → (at < i) × (i ≤ length s)
+pub behind_range : (s : List ℕ) (at i : ℕ) (start : Bool) → empty_in start (drop at s) at ≡ Some i → (at < i) × (i ≤ length s)
 behind_range s at i start e = go (empty_found start (drop at s) at i e)
   where
     go : EmptyAt start (drop at s) at i → (at < i) × (i ≤ length s)
@@ -78,8 +76,8 @@ behind_range s at i start e = go (empty_found start (drop at s) at i e)
 
 -- ---- the same bytes at another place
 abbrev moved : ℕ → Next → Next
-moved k (At j) = At (k + j)
-moved k Wrong = Wrong
+moved k (Some j) = Some (k + j)
+moved k None = None
 
 empty_moved : (start : Bool) (t : List ℕ) (k i : ℕ) → empty_in start t (k + i) ≡ moved k (empty_in start t i)
 unfolding empty_in
@@ -92,8 +90,8 @@ empty_moved start (b ∷ t) k i =
 
 -- ---- what stands behind it
 behind_moved : (s : List ℕ) (at : ℕ) (x : Next) → behind_place x (drop at s) ≡ behind_place (moved at x) s
-behind_moved s at (At j) = drop-drop j at s
-behind_moved s at Wrong = refl
+behind_moved s at (Some j) = drop-drop j at s
+behind_moved s at None = refl
 
 behind_is : (s : List ℕ) (at : ℕ) → behind (drop at s) ≡ behind_place (empty_in true (drop at s) at) s
 unfolding behind
@@ -102,8 +100,8 @@ behind_is s at =
     ∙ ap (λ (x : Next). behind_place x s) (sym (rw add-zero at (empty_moved true (drop at s) at 0)))
 
 module _ (s : List ℕ) (at : ℕ) where
-  pub behind_at : (i : ℕ) → empty_in true (drop at s) at ≡ At i → drop i s ≡ behind (drop at s)
+  pub behind_at : (i : ℕ) → empty_in true (drop at s) at ≡ Some i → drop i s ≡ behind (drop at s)
   behind_at i e = sym (behind_is s at ∙ ap (λ (x : Next). behind_place x s) e)
 
-  pub behind_none_lem : empty_in true (drop at s) at ≡ Wrong → behind (drop at s) ≡ []
+  pub behind_none_lem : empty_in true (drop at s) at ≡ None → behind (drop at s) ≡ []
   behind_none_lem e = behind_is s at ∙ ap (λ (x : Next). behind_place x s) e

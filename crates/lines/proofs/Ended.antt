@@ -12,21 +12,18 @@ use lib.Dec.{eqb}
 use lib.IntN.{pos}
 use lib.ListN.{length, length-append, get_or-append, get_or-eq_default}
 use lib.Seq.{get_or-append_seam}
-use Rattle.std.specs.Prelude.{if◌then◌else◌}
+use Rattle.std.specs.Prelude.{if◌then◌else◌, None, Some}
 use Rattle.exact.proofs.Parts.{by_test}
-use Rattle.text.specs.Text.{byte_at, key_at}
-use Rattle.text.specs.declared.Number.TheVariants.{Bad}
-use Rattle.text.specs.declared.Next.{Next}
-use Rattle.text.specs.declared.Next.TheVariants.{At, Wrong}
+use Rattle.text.specs.Text.{byte_at, key_at, Next}
 use Rattle.keys.specs.Keys.{key_of}
 use Rattle.lines.specs.Line.{place_in, field_at, and_then, after_fields, value_in, line_feed, line_at}
 use Rattle.lines.proofs.Along.{closing, never_at, feed_placed, Along, Moved, stretch}
 
 -- a line feed that is found
-pub feed_ends : (s : List ℕ) (x k : ℕ) → line_feed s x ≡ At k → (byte_at s x ≡ 10) × (x + 1 ≡ k)
+pub feed_ends : (s : List ℕ) (x k : ℕ) → line_feed s x ≡ Some k → (byte_at s x ≡ 10) × (x + 1 ≡ k)
 unfolding key_at
 feed_ends s x k =
-    by_test (eqb (byte_at s x) 10) (λ b. (if b then At (x + 1) else Wrong) ≡ At k → (byte_at s x ≡ 10) × (x + 1 ≡ k))
+    by_test (eqb (byte_at s x) 10) (λ b. (if b then Some (x + 1) else None) ≡ Some k → (byte_at s x ≡ 10) × (x + 1 ≡ k))
     (λ h e. (eqb-true (byte_at s x) 10 h, cc))
     (λ h e. absurd (never_at e))
 
@@ -36,11 +33,11 @@ pub record Fed (s : List ℕ) (k : ℕ) : Type 0 where
   pub next : at + 1 ≡ k
   pub feed : byte_at s at ≡ 10
 
-pub fed : (s : List ℕ) (k : ℕ) (a : Next) → and_then a (line_feed s) ≡ At k → Fed s k
-fed s k (At i) e = let end = feed_ends s i k e in record { at = i; next = end.1; feed = end.0 }
-fed s k Wrong e = absurd (never_at e)
+pub fed : (s : List ℕ) (k : ℕ) (a : Next) → and_then a (line_feed s) ≡ Some k → Fed s k
+fed s k (Some i) e = let end = feed_ends s i k e in record { at = i; next = end.1; feed = end.0 }
+fed s k None e = absurd (never_at e)
 
-pub line_fed : (first n : ℕ) (s : List ℕ) (at k : ℕ) → line_at first n s at ≡ At k → Fed s k
+pub line_fed : (first n : ℕ) (s : List ℕ) (at k : ℕ) → line_at first n s at ≡ Some k → Fed s k
 unfolding line_at
 line_fed first n s at k e = fed s k (after_fields first n s at) e
 
@@ -56,8 +53,8 @@ pub feed_inside : (s : List ℕ) (x : Next) → place_in (and_then x (line_feed 
 feed_inside s x = go (and_then x (line_feed s)) refl
   where
     go : (y : Next) → and_then x (line_feed s) ≡ y → place_in y ≤ length s
-    go (At k) e = fed_inside s k (fed s k x e)
-    go Wrong e = omega arith
+    go (Some k) e = fed_inside s k (fed s k x e)
+    go None e = omega arith
 
 -- ---- a place where a line ends: no key stands there
 abbrev pub opens : List ℕ → Bool
@@ -65,21 +62,21 @@ opens [] = false
 opens (k ∷ ks) = not (closing k)
 
 module _ (s : List ℕ) (at : ℕ) (c : closing (byte_at s at) ≡ true) where
-  pub key_closed : (key : List ℕ) → opens key ≡ true → key_at key s at ≡ Wrong
+  pub key_closed : (key : List ℕ) → opens key ≡ true → key_at key s at ≡ None
   unfolding key_at
   key_closed [] e = absurd (false≢true e)
   key_closed (k ∷ ks) e = rw (ne_eqb (byte_at s at) k (λ z. false≢true (sym (not-true (closing k) e) ∙ ap closing (sym z) ∙ c)))
 
-  field_closed : (k : ℕ) → opens (key_of k) ≡ true → field_at k s at ≡ Bad
+  field_closed : (k : ℕ) → opens (key_of k) ≡ true → field_at k s at ≡ None
   unfolding field_at
   field_closed k e = rw (key_closed (key_of k) e)
 
-  pub fields_closed : (first n : ℕ) → opens (key_of first) ≡ true → after_fields first (suc n) s at ≡ Wrong
+  pub fields_closed : (first n : ℕ) → opens (key_of first) ≡ true → after_fields first (suc n) s at ≡ None
   unfolding after_fields
   fields_closed first zero e = rw (add-zero first, field_closed first e)
   fields_closed first (suc n) e = rw (fields_closed first n e)
 
-  pub line_closed : (first n : ℕ) → opens (key_of first) ≡ true → line_at first (suc n) s at ≡ Wrong
+  pub line_closed : (first n : ℕ) → opens (key_of first) ≡ true → line_at first (suc n) s at ≡ None
   unfolding line_at
   line_closed first n e = rw (fields_closed first n e)
 

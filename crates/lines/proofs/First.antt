@@ -6,9 +6,8 @@ use Prim.Native.Nat.{ℕ, ◌+◌}
 use lib.Dec.{eqb}
 use lib.ListN.{take, drop, take-append-drop}
 use lib.Seq.{take-add}
-use Rattle.std.specs.Prelude.{if◌then◌else◌}
+use Rattle.std.specs.Prelude.{if◌then◌else◌, Some}
 use Rattle.exact.proofs.Parts.{by_test}
-use Rattle.text.specs.declared.Next.TheVariants.{At}
 use Rattle.lines.specs.Cut.{empty_in}
 use Rattle.lines.specs.Pieces.{up_to_place, first_piece}
 use Rattle.lines.proofs.Behind.{one_byte, rest_moves}
@@ -29,7 +28,7 @@ module _ (s : List ℕ) where
   first_from (b ∷ t) i start e =
       rw (one_byte start b t i)
       (by_test (start && eqb b 10)
-      (λ r. up_to_place (if r then At (i + 1) else empty_in (eqb b 10) t (i + 1)) s ≡ take i s ++ (b ∷ (if r then [] else first_in (eqb b 10) t)))
+      (λ r. up_to_place (if r then Some (i + 1) else empty_in (eqb b 10) t (i + 1)) s ≡ take i s ++ (b ∷ (if r then [] else first_in (eqb b 10) t)))
       (λ r. rw (take-add i 1 s, e))
       (λ r. first_from t (i + 1) (eqb b 10) (rest_moves s i b t e) ∙ front_grows i b t _ e))
 

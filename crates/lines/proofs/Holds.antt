@@ -10,7 +10,7 @@ use lib.Dec.{ltb}
 use lib.IntN.{ℤ, pos, negsuc}
 use lib.ListN.{length, length-append}
 use lib.Seq.{append_snoc, get_or-append_seam}
-use Rattle.std.specs.Prelude.{if◌then◌else◌}
+use Rattle.std.specs.Prelude.{if◌then◌else◌, None, Some}
 use Rattle.exact.specs.Whole.{Within}
 use Rattle.exact.proofs.Apart.{impossible}
 use Rattle.exact.proofs.Parts.{by_test}
@@ -19,9 +19,6 @@ use Rattle.text.specs.Number.{digit_of, digit_at, more_digits, natural_at, numbe
 use Rattle.keys.specs.Keys.{may_miss}
 use Rattle.lines.specs.Line.{or_missing, value_at}
 use Rattle.text.specs.Decimal.{natural, number}
-use Rattle.text.specs.declared.digits.Digits.TheVariants.{Natural, NoDigits}
-use Rattle.text.specs.declared.Number.TheVariants.{Got}
-use Rattle.text.specs.declared.Next.TheVariants.{At}
 use Rattle.text.proofs.Numbers.{more_stops, more_goes_on}
 
 abbrev pub Holds : List ℕ → ℕ → List ℕ → Type 0
@@ -46,12 +43,12 @@ holds_end a (b ∷ x) =
     (get_or-append_seam a b x 256, rw (append_snoc a b x, length-append a (b ∷ [])) at r)
 
 -- ---- a key
-pub holds_key : (key s : List ℕ) (at : ℕ) → Holds s at key → key_at key s at ≡ At (at + length key)
+pub holds_key : (key s : List ℕ) (at : ℕ) → Holds s at key → key_at key s at ≡ Some (at + length key)
 unfolding key_at
 holds_key [] s at h = rw add-zero
 holds_key (k ∷ ks) s at h =
     let e : at + 1 + length ks ≡ at + suc (length ks) = omega arith in
-    rw (eq-eqb (byte_at s at) k h.0) (holds_key ks s (at + 1) h.1 ∙ ap At e)
+    rw (eq-eqb (byte_at s at) k h.0) (holds_key ks s (at + 1) h.1 ∙ ap Some e)
 
 -- ---- a number
 digit_said : (d : ℕ) → d < 10 → digit_of (48 + d) ≡ d
@@ -103,45 +100,45 @@ module _ (s : List ℕ) where
 
   -- and no digit follows
   natural_said : (n at : ℕ) → 0 < n → n < 10000000 → Holds s at (natural 7 n) → digit_at s (at + length (natural 7 n)) ≡ 10
-      → natural_at s at ≡ Natural n (at + length (natural 7 n))
+      → natural_at s at ≡ Some (n, at + length (natural 7 n))
   natural_said n at p b o e = (natural_reads 7 n at (omega arith) p (omega arith) o).reads ∙ more_stops _ n s _ e
 
-  zero_said : (at : ℕ) → Holds s at (natural 7 0) → natural_at s at ≡ Natural 0 (at + length (natural 7 0))
+  zero_said : (at : ℕ) → Holds s at (natural 7 0) → natural_at s at ≡ Some (0, at + length (natural 7 0))
   unfolding natural_at natural
   zero_said at o = rw (digit_here at 0 (omega arith) o.0)
 
-  no_minus : (at v next : ℕ) → natural_at s at ≡ Natural v next → byte_at s at ≡ 45 → ⊥
+  no_minus : (at v next : ℕ) → natural_at s at ≡ Some (v, next) → byte_at s at ≡ 45 → ⊥
   unfolding natural_at digit_at
   no_minus at v next e m =
-      let q : natural_at s at ≡ NoDigits = rw m in
+      let q : natural_at s at ≡ None = rw m in
       impossible cc
 
 -- the text x behind key k says z
 abbrev pub Says : ℕ → List ℕ → ℤ → Type 0
-Says k x z = (s : List ℕ) (at : ℕ) → Holds s at x → digit_at s (at + length x) ≡ 10 → value_at k s at ≡ Got z (at + length x)
+Says k x z = (s : List ℕ) (at : ℕ) → Holds s at x → digit_at s (at + length x) ≡ 10 → value_at k s at ≡ Some (z, at + length x)
 
-value_said : (k : ℕ) (s : List ℕ) (at : ℕ) (z : ℤ) (next : ℕ) → number_at s at ≡ Got z next → value_at k s at ≡ Got z next
+value_said : (k : ℕ) (s : List ℕ) (at : ℕ) (z : ℤ) (next : ℕ) → number_at s at ≡ Some (z, next) → value_at k s at ≡ Some (z, next)
 unfolding value_at
-value_said k s at z next e = by_test (may_miss k) (λ b. (if b then or_missing (number_at s at) s at else number_at s at) ≡ Got z next) (λ t. rw e) (λ t. e)
+value_said k s at z next e = by_test (may_miss k) (λ b. (if b then or_missing (number_at s at) s at else number_at s at) ≡ Some (z, next)) (λ t. rw e) (λ t. e)
 
 module _ (s : List ℕ) (at : ℕ) where
-  positive_said : (n next : ℕ) → natural_at s at ≡ Natural n next → number_at s at ≡ Got (pos n) next
+  positive_said : (n next : ℕ) → natural_at s at ≡ Some (n, next) → number_at s at ≡ Some (pos n, next)
   unfolding number_at
   positive_said n next e = rw (ne_eqb (byte_at s at) 45 (no_minus s at n next e), e)
 
-  negative_said : (n next : ℕ) → byte_at s at ≡ 45 → natural_at s (at + 1) ≡ Natural (suc n) next → number_at s at ≡ Got (negsuc n) next
+  negative_said : (n next : ℕ) → byte_at s at ≡ 45 → natural_at s (at + 1) ≡ Some (suc n, next) → number_at s at ≡ Some (negsuc n, next)
   unfolding number_at
   negative_said n next m e = rw (eq-eqb (byte_at s at) 45 m, e, ne_eqb (suc n) 0 (λ z. omega arith))
 
 pub number_said : (k : ℕ) (z : ℤ) → Within 9999999 z → Says k (number z) z
 number_said k (pos n) w s at o e = value_said k s at (pos n) _ (positive_said s at n _ (go n w o e))
   where
-    go : (n : ℕ) → Within 9999999 (pos n) → Holds s at (natural 7 n) → digit_at s (at + length (natural 7 n)) ≡ 10 → natural_at s at ≡ Natural n (at + length (natural 7 n))
+    go : (n : ℕ) → Within 9999999 (pos n) → Holds s at (natural 7 n) → digit_at s (at + length (natural 7 n)) ≡ 10 → natural_at s at ≡ Some (n, at + length (natural 7 n))
     go zero w o e = zero_said s at o
     go (suc n) w o e = natural_said s (suc n) at (omega arith) (omega arith) o e
 number_said k (negsuc n) w s at o e =
     let q : at + 1 + length (natural 7 (suc n)) ≡ at + suc (length (natural 7 (suc n))) = omega arith in
-    value_said k s at (negsuc n) _ (negative_said s at n _ o.0 (natural_said s (suc n) (at + 1) (omega arith) (omega arith) o.1 (rw q e) ∙ ap (Natural (suc n)) q))
+    value_said k s at (negsuc n) _ (negative_said s at n _ o.0 (natural_said s (suc n) (at + 1) (omega arith) (omega arith) o.1 (rw q e) ∙ ap ((λ a b. Some (a, b)) (suc n)) q))
 
 -- a minus alone, where a number may be missing
 pub missing_said : (k : ℕ) → may_miss k ≡ true → Says k (45 ∷ []) missing

@@ -11,13 +11,10 @@ use borrow.Author.Tests.{ltb-true, le-leb, lt-leb}
 use lib.Dec.{ltb, leb}
 use lib.IntN.{ℤ, pos}
 use lib.ListN.{get_or, set, replicate}
-use Rattle.std.specs.Prelude.{if◌then◌else◌}
+use Rattle.std.specs.Prelude.{if◌then◌else◌, None, Some}
 use Rattle.exact.specs.Whole.{up_to}
 use Rattle.exact.proofs.Parts.{by_test}
-use Rattle.text.specs.Text.{key_at}
-use Rattle.text.specs.declared.Number.TheVariants.{Got, Bad}
-use Rattle.text.specs.declared.Next.{Next}
-use Rattle.text.specs.declared.Next.TheVariants.{At, Wrong}
+use Rattle.text.specs.Text.{key_at, Next}
 use Rattle.lines.specs.declared.Fields.{Fields}
 use Rattle.keys.specs.Keys.{KEYS, key_of}
 use Rattle.lines.specs.Line.{value_after, field_at, next_of, value_of, and_then, after_fields, value_in, filled, is_line, no_fields, fields_at, line_feed, line_at}
@@ -43,14 +40,14 @@ module _ (first count : ℕ) where
 module _ (first : ℕ) (s : List ℕ) (at : ℕ) where
   -- n fields are read, up to the place i, and behind their values stand zeros
   pub record Reading (values : List ℤ) (i n : ℕ) : Type 0 where
-    pub place : after_fields first n s at ≡ At i
+    pub place : after_fields first n s at ≡ Some i
     pub read : values ≡ filled n 20 (value_in first s at) (pos 0)
 
   pub fields_begin : Reading (replicate 20 (pos 0)) at 0
   unfolding after_fields up_to
   fields_begin = record { place = refl; read = refl }
 
-  stays_wrong : (n d : ℕ) → after_fields first n s at ≡ Wrong → after_fields first (n + d) s at ≡ Wrong
+  stays_wrong : (n d : ℕ) → after_fields first n s at ≡ None → after_fields first (n + d) s at ≡ None
   unfolding after_fields
   stays_wrong n zero e = rw add-zero e
   stays_wrong n (suc d) e = rw (add-suc n d, stays_wrong n d e)
@@ -73,19 +70,19 @@ module _ (first : ℕ) (s : List ℕ) (at : ℕ) where
     value_next = rw o.place
 
     -- a field more
-    pub fields_more : (v : ℤ) (next : ℕ) → n < 20 → field_at (first + n) s i ≡ Got v next → Reading (set values n v) next (n + 1)
+    pub fields_more : (v : ℤ) (next : ℕ) → n < 20 → field_at (first + n) s i ≡ Some (v, next) → Reading (set values n v) next (n + 1)
     fields_more v next h e = record {
       place = rw (add-one n) (place_next ∙ ap next_of e);
       read = fill_next (value_in first s at) (pos 0) n 20 h o.read (sym (value_next ∙ ap value_of e));
     }
 
     -- a field that is wrong: so is the line, and every value from there on is 0
-    wrong_place : (k : ℕ) → n < k → field_at (first + n) s i ≡ Bad → after_fields first k s at ≡ Wrong
+    wrong_place : (k : ℕ) → n < k → field_at (first + n) s i ≡ None → after_fields first k s at ≡ None
     wrong_place k h e =
         let q : suc n + (k - suc n) ≡ k = omega arith in
         ap (λ (m : ℕ). after_fields first m s at) (sym q) ∙ stays_wrong (suc n) (k - suc n) (place_next ∙ ap next_of e)
 
-    wrong_value : field_at (first + n) s i ≡ Bad → (k : ℕ) → n ≤ k → value_in first s at k ≡ pos 0
+    wrong_value : field_at (first + n) s i ≡ None → (k : ℕ) → n ≤ k → value_in first s at k ≡ pos 0
     unfolding value_in
     wrong_value e k h = go (dec_lt n k)
       where
@@ -93,16 +90,16 @@ module _ (first : ℕ) (s : List ℕ) (at : ℕ) where
         go (yes p) = rw (wrong_place k p e)
         go (no q) = let same : k ≡ n = omega arith in rw same (value_next ∙ ap value_of e)
 
-    pub fields_wrong : (count : ℕ) → first + count ≤ KEYS → count ≤ 20 → n < count → field_at (first + n) s i ≡ Bad
-        → record { next = Wrong; values = values } ≡ fields_at first count s at
+    pub fields_wrong : (count : ℕ) → first + count ≤ KEYS → count ≤ 20 → n < count → field_at (first + n) s i ≡ None
+        → record { next = None; values = values } ≡ fields_at first count s at
     fields_wrong count h k l e =
         let all : n + (count - n) ≡ count = omega arith in
-        fields_are count Wrong values h k (sym (wrong_place count l e))
+        fields_are count None values h k (sym (wrong_place count l e))
         (o.read ∙ fill_rest (value_in first s at) (pos 0) n 20 (count - n) (omega arith) (wrong_value e) ∙ rw all)
 
     -- all fields are read
-    pub fields_end : (count : ℕ) → first + count ≤ KEYS → count ≤ 20 → n ≡ count → record { next = At i; values = values } ≡ fields_at first count s at
-    fields_end count h k e = fields_are count (At i) values h k (rw e at (sym o.place)) (rw e at o.read)
+    pub fields_end : (count : ℕ) → first + count ≤ KEYS → count ≤ 20 → n ≡ count → record { next = Some i; values = values } ≡ fields_at first count s at
+    fields_end count h k e = fields_are count (Some i) values h k (rw e at (sym o.place)) (rw e at o.read)
 
 -- ---- what a line's fields say: the place after them, and each value
 pub record FieldsRead (first count : ℕ) (s : List ℕ) (at : ℕ) (r : Fields) : Type 0 where

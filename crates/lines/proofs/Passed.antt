@@ -1,4 +1,5 @@
 -- A line that is read is not empty and holds no empty line: the first empty line of its text stands behind it.
+use Rattle.std.specs.Prelude.{Some}
 use mathlib.Core.Path.{◌≡◌, refl, sym, ◌∙◌, ap}
 use mathlib.Core.Bool.{Bool, true, false}
 use mathlib.Core.List.{List}
@@ -8,9 +9,7 @@ use native.Mathlib.Omega.{arith}
 use borrow.Author.Tests.{eq-eqb, ne_eqb}
 use lib.Dec.{lit<}
 use lib.ListN.{length, get_or, drop}
-use Rattle.text.specs.Text.{byte_at}
-use Rattle.text.specs.declared.Next.{Next}
-use Rattle.text.specs.declared.Next.TheVariants.{At}
+use Rattle.text.specs.Text.{byte_at, Next}
 use Rattle.text.proofs.Numbers.{inside_same, byte_inside}
 use Rattle.keys.specs.Keys.{key_of}
 use Rattle.lines.specs.Line.{and_then, after_fields, line_feed, line_at}
@@ -24,11 +23,11 @@ module _ (s : List ℕ) where
   at_byte i h = inside_same s i 256 0 h
 
   -- a line feed is an empty line where a line begins
-  pub feed_empty : (x k : ℕ) → line_feed s x ≡ At k → empty_in true (drop x s) x ≡ At k
+  pub feed_empty : (x k : ℕ) → line_feed s x ≡ Some k → empty_in true (drop x s) x ≡ Some k
   feed_empty x k e =
       let end = feed_ends s x k e in
       let h = byte_inside s x 10 end.0 (lit< tt) in
-      empty_here s x h true (eq-eqb (get_or s x 0) 10 (sym (at_byte x h) ∙ end.0)) refl ∙ ap At end.1
+      empty_here s x h true (eq-eqb (get_or s x 0) 10 (sym (at_byte x h) ∙ end.0)) refl ∙ ap Some end.1
 
   -- bytes that are no line feed are passed, and the one behind them
   pub pass : (x i : ℕ) (start : Bool) → ((m : ℕ) → m < x → byte_at s (i + m) ≡ 10 → ⊥) → byte_at s (i + x) ≡ 10 → (x ≡ 0 → start ≡ false)
@@ -51,12 +50,12 @@ module _ (s : List ℕ) where
 
   -- ---- the first line of a text: its fields end before any line does
   module _ (first n : ℕ) (key : opens (key_of first) ≡ true) where
-    fields_within : (m x : ℕ) → closing (byte_at s (0 + m)) ≡ true → after_fields first (suc n) s 0 ≡ At x → x ≤ m
+    fields_within : (m x : ℕ) → closing (byte_at s (0 + m)) ≡ true → after_fields first (suc n) s 0 ≡ Some x → x ≤ m
     fields_within m x c e =
         let itself : Along s s 0 0 m = record { same = λ a l. refl; stop = c } in
         unmoved_within x (fields_along itself first (suc n) 0 (omega arith)) e
 
-    pub line_passed : (k : ℕ) → line_at first (suc n) s 0 ≡ At k → empty_in true s 0 ≡ empty_in true (drop k s) k
+    pub line_passed : (k : ℕ) → line_at first (suc n) s 0 ≡ Some k → empty_in true s 0 ≡ empty_in true (drop k s) k
     unfolding line_at
     line_passed k e =
         let front = went (after_fields first (suc n) s 0) (line_feed s) k e in

@@ -1,4 +1,5 @@
 -- The pieces of a text: where each ends and what stands behind it, and what a text shares with its first piece.
+use Rattle.std.specs.Prelude.{None, Some}
 use mathlib.Core.Path.{◌≡◌, refl, sym, ap, ◌∙◌}
 use mathlib.Core.Bool.{true, false}
 use mathlib.Core.List.{List}
@@ -8,9 +9,7 @@ use native.Mathlib.Numerals.{one-add}
 use native.Mathlib.Omega.{arith}
 use lib.ListN.{length, drop, take, length-drop, drop_of_length-le}
 use lib.Seq.{take_all, drop-cons, drop-length, get_or-take, get_or-drop}
-use Rattle.text.specs.declared.Next.{Next}
-use Rattle.text.specs.declared.Next.TheVariants.{At, Wrong}
-use Rattle.text.specs.Text.{byte_at}
+use Rattle.text.specs.Text.{byte_at, Next}
 use Rattle.lines.specs.Cut.{empty_in, behind}
 use Rattle.lines.specs.Pieces.{rest_after, or_end, piece_after, up_to_place, first_piece, is_some}
 use Rattle.lines.proofs.Along.{closing, Along}
@@ -23,8 +22,8 @@ module _ (s : List ℕ) (at : ℕ) where
   Behind r = (drop r s ≡ behind (drop at s)) × (r ≤ length s)
 
   behind_end : (x : Next) → empty_in true (drop at s) at ≡ x → Behind (or_end x s)
-  behind_end (At i) e = (behind_at s at i e, (behind_range s at i true e).1)
-  behind_end Wrong e = (drop-length s ∙ sym (behind_none_lem s at e), omega arith)
+  behind_end (Some i) e = (behind_at s at i e, (behind_range s at i true e).1)
+  behind_end None e = (drop-length s ∙ sym (behind_none_lem s at e), omega arith)
 
   pub piece_behind : (r : ℕ) → r ≡ piece_after s at → Behind r
   unfolding piece_after
@@ -77,6 +76,6 @@ module _ (s : List ℕ) where
   unfolding first_piece
   piece_shares = go (empty_in true s 0) (empty_found true s 0)
     where
-      go : (x : Next) → ((j : ℕ) → x ≡ At j → EmptyAt true s 0 j) → Shares s (up_to_place x s)
-      go (At j) f = piece_ends j (f j refl)
-      go Wrong f = whole refl
+      go : (x : Next) → ((j : ℕ) → x ≡ Some j → EmptyAt true s 0 j) → Shares s (up_to_place x s)
+      go (Some j) f = piece_ends j (f j refl)
+      go None f = whole refl

@@ -1,4 +1,5 @@
 -- A printed line is read to what it was printed from.
+use Rattle.std.specs.Prelude.{Some}
 use mathlib.Core.Path.{◌≡◌, refl, ap, ◌∙◌}
 use mathlib.Core.Bool.{Bool, true, false, false≢true}
 use mathlib.Core.List.{List, [], ◌∷◌, ◌++◌}
@@ -14,8 +15,6 @@ use Rattle.text.specs.Number.{digit_of, digit_at}
 use Rattle.keys.specs.Keys.{KEYS, keys, key_of}
 use Rattle.lines.specs.Line.{field_at, after_fields, value_in, line_at}
 use Rattle.lines.specs.Print.{fields, line}
-use Rattle.text.specs.declared.Number.TheVariants.{Got}
-use Rattle.text.specs.declared.Next.TheVariants.{At}
 use Rattle.keys.proofs.AllKeys.{table_at}
 use Rattle.lines.proofs.Holds.{Holds, holds_split, after_both, holds_key, Says}
 
@@ -49,23 +48,23 @@ say_at k (x ∷ xs) (z ∷ zs) (o and os) (suc j) h =
 
 -- ---- fields and lines
 pub field_said : (k : ℕ) (x : List ℕ) (z : ℤ) (s : List ℕ) (at : ℕ) → Says k x z → Holds s at (key_of k ++ x) → digit_at s (at + length (key_of k ++ x)) ≡ 10
-    → field_at k s at ≡ Got z (at + length (key_of k ++ x))
+    → field_at k s at ≡ Some (z, at + length (key_of k ++ x))
 unfolding field_at
 field_said k x z s at say o e =
     let r = holds_split s at (key_of k) x o in
     let q = after_both at (key_of k) x in
-    rw (holds_key (key_of k) s at r.0) (say s (at + length (key_of k)) r.1 (rw q e) ∙ ap (Got z) q)
+    rw (holds_key (key_of k) s at r.0) (say s (at + length (key_of k)) r.1 (rw q e) ∙ ap ((λ a b. Some (a, b)) z) q)
 
 -- n texts say n numbers
 module _ (first : ℕ) (texts : List (List ℕ)) (v : ℕ → ℤ) (s : List ℕ) (at : ℕ) where
   pub record FieldsSaid (n : ℕ) : Type 0 where
-    pub place : after_fields first n s at ≡ At (at + length (fields first n texts))
+    pub place : after_fields first n s at ≡ Some (at + length (fields first n texts))
     pub values : (j : ℕ) → j < n → value_in first s at j ≡ v j
 
-  fields_more : (n : ℕ) (x : List ℕ) → FieldsSaid n → field_at (first + n) s (at + length (fields first n texts)) ≡ Got (v n) (at + length (fields first n texts) + length x)
-      → (after_fields first (suc n) s at ≡ At (at + length (fields first n texts ++ x))) × ((j : ℕ) → j < suc n → value_in first s at j ≡ v j)
+  fields_more : (n : ℕ) (x : List ℕ) → FieldsSaid n → field_at (first + n) s (at + length (fields first n texts)) ≡ Some (v n, at + length (fields first n texts) + length x)
+      → (after_fields first (suc n) s at ≡ Some (at + length (fields first n texts ++ x))) × ((j : ℕ) → j < suc n → value_in first s at j ≡ v j)
   unfolding after_fields value_in
-  fields_more n x o e = (rw (o.place, e) (ap At (after_both at (fields first n texts) x)), λ j l. each j l (dec_lt j n))
+  fields_more n x o e = (rw (o.place, e) (ap Some (after_both at (fields first n texts) x)), λ j l. each j l (dec_lt j n))
     where
       each : (j : ℕ) → j < suc n → Dec (j < n) → value_in first s at j ≡ v j
       each j l (yes p) = o.values j p
@@ -85,7 +84,7 @@ module _ (first : ℕ) (texts : List (List ℕ)) (v : ℕ → ℤ) (s : List ℕ
       record { place = m.0; values = m.1 }
 
   pub record LineSaid (n : ℕ) : Type 0 where
-    pub place : line_at first n s at ≡ At (at + length (line first n texts))
+    pub place : line_at first n s at ≡ Some (at + length (line first n texts))
     pub values : (j : ℕ) → j < n → value_in first s at j ≡ v j
 
   pub line_said : (n : ℕ) → ((j : ℕ) → j < n → Says (first + j) (get_or texts j []) (v j)) → first + n ≤ KEYS → Holds s at (line first n texts) → LineSaid n
@@ -95,6 +94,6 @@ module _ (first : ℕ) (texts : List (List ℕ)) (v : ℕ → ℤ) (s : List ℕ
       let r = holds_split s at x (10 ∷ []) o in
       let f = fields_said n say h r.0 (ap digit_of r.1.0) in
       record {
-        place = rw f.place (holds_key (10 ∷ []) s (at + length x) r.1 ∙ ap At (after_both at x (10 ∷ [])));
+        place = rw f.place (holds_key (10 ∷ []) s (at + length x) r.1 ∙ ap Some (after_both at x (10 ∷ [])));
         values = f.values;
       }

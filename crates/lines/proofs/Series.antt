@@ -1,4 +1,5 @@
 -- The lines of a block, read one after the other into an array: what each way out of a turn of the loop says of all of them.
+use Rattle.text.specs.Text.{Next}
 use mathlib.Core.Path.{◌≡◌, refl, sym, ◌∙◌, ap}
 use mathlib.Core.Bool.{true, false}
 use mathlib.Core.List.{List}
@@ -8,12 +9,10 @@ use native.Mathlib.Nat.{add-zero, add-suc}
 use native.Mathlib.Omega.{arith}
 use borrow.Author.Tests.{ne_eqb}
 use lib.ListN.{set, replicate}
-use Rattle.std.specs.Prelude.{if◌then◌else◌}
+use Rattle.std.specs.Prelude.{if◌then◌else◌, None, Some}
 use Rattle.exact.specs.Whole.{up_to}
 use Rattle.exact.proofs.Apart.{impossible}
 use Rattle.exact.proofs.Parts.{by_test}
-use Rattle.text.specs.declared.Next.{Next}
-use Rattle.text.specs.declared.Next.TheVariants.{At, Wrong}
 use Rattle.lines.specs.Line.{closes, filled}
 use Rattle.lines.specs.Series.{series_place, series_from, series_in, Series, line_count, broken_line, series_after, series_at}
 use Rattle.lines.specs.Told.{SeriesFound}
@@ -21,11 +20,11 @@ use Rattle.lines.proofs.Fill.{fill_next}
 
 -- ---- each line, from its place
 module _ (line : List ℕ → ℕ → Next) (s : List ℕ) (from : ℕ) where
-  pub place_first : series_place line s from 0 ≡ At from
+  pub place_first : series_place line s from 0 ≡ Some from
   unfolding series_place
   place_first = refl
 
-  module _ (i at : ℕ) (p : series_place line s from i ≡ At at) where
+  module _ (i at : ℕ) (p : series_place line s from i ≡ Some at) where
     pub place_next : series_place line s from (i + 1) ≡ line s at
     unfolding series_place
     place_next = rw (add-one i, p)
@@ -35,7 +34,7 @@ module _ (line : List ℕ → ℕ → Next) (s : List ℕ) (from : ℕ) where
     place_said say blank = ap (series_from say blank s) p
 
   -- behind a line that is not there is none
-  pub series_wrong : (i d : ℕ) → series_place line s from i ≡ Wrong → series_place line s from (i + d) ≡ Wrong
+  pub series_wrong : (i d : ℕ) → series_place line s from i ≡ None → series_place line s from (i + d) ≡ None
   unfolding series_place
   series_wrong i zero e = rw add-zero e
   series_wrong i (suc d) e = rw (add-suc i d, series_wrong i d e)
@@ -53,11 +52,11 @@ module _ (line : List ℕ → ℕ → Next) (before : ℕ) (s : List ℕ) (at i 
     unfolding series_at
     many = rw e
 
-    broken : (left : ℕ) → line s at ≡ Wrong → series_at line before (suc left) s at i ≡ broken_line (i + before)
+    broken : (left : ℕ) → line s at ≡ None → series_at line before (suc left) s at i ≡ broken_line (i + before)
     unfolding series_at
     broken left f = rw (e, series_at, f)
 
-    goes_on : (left next : ℕ) → line s at ≡ At next → series_at line before (suc left) s at i ≡ series_at line before left s next (i + 1)
+    goes_on : (left next : ℕ) → line s at ≡ Some next → series_at line before (suc left) s at i ≡ series_at line before left s next (i + 1)
     unfolding series_at
     goes_on left next f = rw (e, series_at, f)
 
@@ -65,10 +64,10 @@ module _ (line : List ℕ → ℕ → Next) (before : ℕ) (s : List ℕ) (at i 
 
 module _ (line : List ℕ → ℕ → Next) (first_line most : ℕ) (s : List ℕ) (from : ℕ) where
   pub data Found : Series → Type 0 where
-    all : (n end : ℕ) → n ≤ most → series_place line s from n ≡ At end → closes s end ≡ true → Found (line_count n)
+    all : (n end : ℕ) → n ≤ most → series_place line s from n ≡ Some end → closes s end ≡ true → Found (line_count n)
     broken_at : (i : ℕ) → Found (broken_line (i + first_line))
 
-  series_from_lem : (left at i : ℕ) → i + left ≤ most → series_place line s from i ≡ At at → Found (series_at line first_line left s at i)
+  series_from_lem : (left at i : ℕ) → i + left ≤ most → series_place line s from i ≡ Some at → Found (series_at line first_line left s at i)
   unfolding series_at
   series_from_lem zero at i u p =
       by_test (closes s at) (λ b. Found (if b then line_count i else broken_line (i + first_line))) (λ c. all i at (omega arith) p c) (λ c. broken_at i)
@@ -78,10 +77,10 @@ module _ (line : List ℕ → ℕ → Next) (first_line most : ℕ) (s : List �
       (λ c. all i at (omega arith) p c)
       (λ c. go rest (λ next e. series_from_lem left next (i + 1) (omega arith) (place_next line s from i at p ∙ e)) (line s at) refl)
     where
-      go : (rest : ℕ → Series) → ((next : ℕ) → line s at ≡ At next → Found (rest next)) → (a : Next) → line s at ≡ a
+      go : (rest : ℕ → Series) → ((next : ℕ) → line s at ≡ Some next → Found (rest next)) → (a : Next) → line s at ≡ a
           → Found (series_after a (i + first_line) rest)
-      go rest later (At next) e = later next e
-      go rest later Wrong e = broken_at i
+      go rest later (Some next) e = later next e
+      go rest later None e = broken_at i
 
   pub series_found : Found (series_at line first_line most s from 0)
   series_found = series_from_lem most from 0 (omega arith) (place_first line s from)
@@ -108,7 +107,7 @@ module _ {A : Type 0} (line : List ℕ → ℕ → Next) (before most : ℕ) (sa
   -- what the code has read after n lines, up to the place i
   pub record ReadTo (array : List A) (i n : ℕ) : Type 0 where
     pub few : n ≤ most
-    pub place : series_place line s at n ≡ At i
+    pub place : series_place line s at n ≡ Some i
     pub rest : series_at line before most s at 0 ≡ series_at line before (most - n) s i n
     pub series : array ≡ filled n most (series_in line say blank s at) blank
 
@@ -136,10 +135,10 @@ module _ {A : Type 0} (line : List ℕ → ℕ → Next) (before most : ℕ) (sa
         left_one : most - n ≡ suc (most - (n + 1))
         left_one = omega arith
 
-        pub series_break : 0 < before → line s i ≡ Wrong → SeriesFound line before most say blank s at (n + before) n array
+        pub series_break : 0 < before → line s i ≡ None → SeriesFound line before most say blank s at (n + before) n array
         series_break b f = refused (n + before) (omega arith) (h.rest ∙ rw left_one (broken line before s i n e _ f))
 
-        pub series_next : (next : ℕ) (v : A) → line s i ≡ At next → v ≡ say s i → ReadTo (set array n v) next (n + 1)
+        pub series_next : (next : ℕ) (v : A) → line s i ≡ Some next → v ≡ say s i → ReadTo (set array n v) next (n + 1)
         series_next next v f p =
             record {
               few = omega arith;

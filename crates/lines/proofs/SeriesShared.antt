@@ -1,10 +1,10 @@
 -- Two texts that share bytes: lines among them are read as the same, whatever a line is, where one line is read as the same.
+use Rattle.text.specs.Text.{Next}
 use mathlib.Core.Path.{◌≡◌, refl, ap}
 use mathlib.Core.List.{List}
 use Prim.Native.Nat.{ℕ, zero, suc, ◌+◌, ◌*◌, ◌≤◌, ◌<◌}
 use native.Mathlib.Omega.{arith}
 use Rattle.std.specs.Prelude.{if◌then◌else◌}
-use Rattle.text.specs.declared.Next.{Next}
 use Rattle.lines.specs.Line.{closes}
 use Rattle.lines.specs.Series.{series_place, series_from, series_in, Series, line_count, series_after, series_at}
 use Rattle.lines.proofs.Along.{Placed, both, neither, moved_then}

@@ -1,20 +1,18 @@
 -- The text is cut at its empty lines.
-use Rattle.std.specs.Prelude.{if◌then◌else◌, ◌≡◌, refl, Bool, true, false, List, [], ◌∷◌, ℕ, ◌+◌, eqb, drop}
-use Rattle.text.specs.declared.Next.{Next}
-use Rattle.text.specs.declared.Next.TheVariants.{At, Wrong}
-use Rattle.text.specs.Text.{LF, bytes}
+use Rattle.std.specs.Prelude.{if◌then◌else◌, ◌≡◌, refl, Bool, true, false, List, [], ◌∷◌, ℕ, ◌+◌, eqb, drop, None, Some}
+use Rattle.text.specs.Text.{LF, bytes, Next}
 
 -- the place behind the first empty line of the bytes t, which begin at place i of a text; `start` says that a line begins there
 unfoldable pub empty_in : (start : Bool) → List ℕ → ℕ → Next
-empty_in start [] i = Wrong
+empty_in start [] i = None
 empty_in start (b ∷ t) i =
     let begun = empty_in true t (i + 1) in
     let inside = empty_in false t (i + 1) in
-    if eqb b LF then (if start then At (i + 1) else begun) else inside
+    if eqb b LF then (if start then Some (i + 1) else begun) else inside
 
 abbrev pub behind_place : Next → List ℕ → List ℕ
-behind_place (At i) s = drop i s
-behind_place Wrong s = []
+behind_place (Some i) s = drop i s
+behind_place None s = []
 
 -- what stands behind the first empty line, or nothing
 unfoldable pub behind : List ℕ → List ℕ

@@ -1,6 +1,6 @@
 -- What the code has read of the lines of a block that are all alike.
+use Rattle.text.specs.Text.{Next}
 use Rattle.std.specs.Prelude.{if◌then◌else◌, ◌≡◌, List, ℕ, eqb}
-use Rattle.text.specs.declared.Next.{Next}
 use Rattle.lines.specs.Line.{filled}
 use Rattle.lines.specs.Series.{series_in, Series, line_count, broken_line, series_at}
 

@@ -7,7 +7,6 @@ ghost use Rattle.lines.specs.Cut.{empty_in};
 ghost use Rattle.lines.specs.Pieces.{piece_after};
 ghost use Rattle.lines.specs.Line.{fields_at, and_then, line_feed, closes, ends_empty};
 
-use text::Next;
 
 mod field;
 
@@ -17,7 +16,7 @@ pub const PIECE: usize = 10640;
 // The values of a line's fields, and the place after them.
 #[derive(Clone, Copy)]
 pub struct Fields {
-    pub next: Next,
+    pub next: Option<usize>,
     pub values: [i64; 20],
 }
 
@@ -35,12 +34,12 @@ pub fn fields_at(s: &[u8], at: usize, first: usize, count: usize) -> Fields
 }
 
 // The end of the line, where its fields were as printed.
-pub fn line_end(s: &[u8], next: Next) -> Next
+pub fn line_end(s: &[u8], next: Option<usize>) -> Option<usize>
     ensures { result ≡ and_then next (line_feed s.now) }
 {
     match next {
-        Next::At(at) => text::key_at(s, at, b"\n"),
-        Next::Wrong => Next::Wrong,
+        Some(at) => text::key_at(s, at, b"\n"),
+        None => None,
     }
 }
 
@@ -76,7 +75,7 @@ pub fn is_whole(text: &[u8], n: usize) -> bool
 }
 
 // The place behind the first empty line from a place on; `start` says that a line begins there.
-pub fn empty_line(s: &[u8], at: usize, start: bool) -> Next
+pub fn empty_line(s: &[u8], at: usize, start: bool) -> Option<usize>
     ensures { result ≡ empty_in start (drop at s.now) at }
 {
     let mut begins = start;
@@ -85,13 +84,13 @@ pub fn empty_line(s: &[u8], at: usize, start: bool) -> Next
         let feed = s[i] == 10;
         if feed {
             if begins {
-                return Next::At(i + 1);
+                return Some(i + 1);
             }
         }
         begins = feed;
         i += 1;
     }
-    Next::Wrong
+    None
 }
 
 // The place behind the piece that begins at a place: after its empty line, or the text's end.
@@ -100,7 +99,7 @@ pub fn piece_after(s: &[u8], at: usize) -> usize
 {
     let next = empty_line(s, at, true);
     match next {
-        Next::At(i) => i,
-        Next::Wrong => s.len(),
+        Some(i) => i,
+        None => s.len(),
     }
 }

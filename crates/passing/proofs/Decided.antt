@@ -7,14 +7,12 @@ use native.Mathlib.Omega.{arith}
 use lib.Dec.{eqb}
 use lib.ListN.{length, take}
 use lib.Seq.{take-append-le}
-use Rattle.std.specs.Prelude.{if◌then◌else◌}
+use Rattle.std.specs.Prelude.{if◌then◌else◌, Some}
 use Rattle.exact.proofs.Parts.{by_test}
 use Rattle.io.specs.Counts.{IsPrefixLen}
-use Rattle.tariff.specs.declared.Found.{Found}
-use Rattle.tariff.specs.Reply.{shown}
+use Rattle.tariff.specs.Reply.{shown, Found}
 use Rattle.text.specs.Text.{LF}
 use Rattle.text.specs.Number.{is_numeral}
-use Rattle.text.specs.declared.Next.TheVariants.{At}
 use Rattle.lines.specs.Line.{is_at, place_in}
 use Rattle.lines.specs.Cut.{empty_in}
 use Rattle.lines.specs.Pieces.{PIECE}
@@ -42,7 +40,7 @@ unfolding squeeze_after squeeze_next
 has_closed [] start run i = λ e. absurd (omega (arith, e))
 has_closed (b ∷ t) start run i =
     rw (one_byte start b t i)
-    (by_test (start && eqb b LF) (λ x. Closes → is_at (if x then At (i + 1) else empty_in (eqb b LF) t (i + 1)) ≡ true)
+    (by_test (start && eqb b LF) (λ x. Closes → is_at (if x then Some (i + 1) else empty_in (eqb b LF) t (i + 1)) ≡ true)
     (λ e c. refl)
     (λ on.
     by_test (is_numeral b) (λ x. Closes → is_at (empty_in (eqb b LF) t (i + 1)) ≡ true)

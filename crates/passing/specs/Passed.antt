@@ -1,7 +1,6 @@
 -- What is answered to a sheet that comes on standard input. Which bytes come cannot be said: the answer is that to some text.
 use Rattle.std.specs.Prelude.{◌≡◌, Bool, true, List, [], ◌++◌, ℕ}
-use Rattle.tariff.specs.declared.Found.{Found}
-use Rattle.tariff.specs.Reply.{shown}
+use Rattle.tariff.specs.Reply.{shown, Found}
 use Rattle.archive.specs.declared.Way.{Way}
 use Rattle.archive.specs.Move.{move_fault}
 

@@ -6,7 +6,7 @@ ghost use Rattle.passing.specs.Passed.{Passed};
 
 use archive::Way;
 use std::io::{Read, Stderr, Stdin, Stdout};
-use tariff::Found;
+use tariff::Check;
 
 // Room for the front of a sheet with the line that moving up adds.
 const MOVED: usize = intake::FRONT + 9;
@@ -31,7 +31,7 @@ fn copy_rest(stdin: Stdin, stdout: Stdout) {
 }
 
 // Writes a refusal to standard error.
-fn say(stderr: Stderr, found: Found) {
+fn say(stderr: Stderr, found: Result<(), Check>) {
     let mut line = io::buffer();
     let n = answers::put_found(&mut line, 0, found);
     let _ = stderr.write_all(&line[..n]);
@@ -39,7 +39,7 @@ fn say(stderr: Stderr, found: Found) {
 
 // Moves the sheet on standard input, at the pace at which it comes, and answers what refuses it. On a refusal nothing is written to standard
 // output, and the refusal to standard error.
-pub fn pass_sheet(rt: &HostRuntime, way: Way) -> Found
+pub fn pass_sheet(rt: &HostRuntime, way: Way) -> Result<(), Check>
     ensures { Passed way result }
 {
     let mut front = [0u8; intake::FRONT];

@@ -1,10 +1,8 @@
 -- An interval before its derate: it lags, it has no operating point, or it has one.
-use Rattle.std.specs.Prelude.{if◌then◌else◌, leb, ℤ}
+use Rattle.std.specs.Prelude.{if◌then◌else◌, leb, ℤ, None, Some}
 use Rattle.tariff.specs.declared.Curve.{Curve}
 use Rattle.tariff.specs.declared.Interval.{Interval}
-use Rattle.tariff.specs.declared.MaybeKw.{MaybeKw}
-use Rattle.tariff.specs.declared.MaybeKw.TheVariants as maybe
-use Rattle.tariff.specs.Units.{kw}
+use Rattle.tariff.specs.Units.{kw, MaybeKw}
 use Rattle.tariff.specs.Curve.{Amount, known, none}
 use Rattle.tariff.specs.Eligible.{lags}
 use Rattle.tariff.specs.Point.{point_on, point_by}
@@ -17,8 +15,8 @@ point_found c pen = if leb c.n 12 then point_on c pen else none
 
 -- a point as the code holds it
 abbrev pub to_maybe : Amount → MaybeKw
-to_maybe (known E) = maybe.At (kw E)
-to_maybe none = maybe.Missing
+to_maybe (known E) = Some (kw E)
+to_maybe none = None
 
 -- where an interval stands that does not lag
 abbrev pub standing_by : Amount → Standing

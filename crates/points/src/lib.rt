@@ -8,7 +8,7 @@ ghost use Rattle.tariff.specs.Point.{point_by};
 ghost use Rattle.points.specs.declared.Standing.TheVariants.{Lags, Pointless, At};
 ghost use Rattle.points.specs.Standing.{point_found, to_maybe, standing_of};
 
-use tariff::{Curve, Interval, Kw, MaybeKw, Price};
+use tariff::{Curve, Interval, Kw, Price};
 
 // An interval that lags asks nothing (25.4). One that has its operating point can be derated and priced; one that should find it on a curve
 // without steps has none.
@@ -35,14 +35,14 @@ fn moved_on(taken: bool, end: Kw, point: Kw) -> Kw
 
 // The operating point that a real-time curve has at the price `pen`: the end of the last step that is taken, and the curve's start where none is.
 // A count above 12 is FORM's to refuse: such a curve has no point here.
-fn point_on(c: Curve, pen: Price) -> MaybeKw
+fn point_on(c: Curve, pen: Price) -> Option<Kw>
     ensures { result ≡ to_maybe (point_found c pen.0) }
 {
     if c.n == 0 {
-        return MaybeKw::Missing;
+        return None;
     }
     if 12 < c.n {
-        return MaybeKw::Missing;
+        return None;
     }
     let n = c.n;
     let to = c.to;
@@ -55,16 +55,16 @@ fn point_on(c: Curve, pen: Price) -> MaybeKw
         point = moved_on(taken, to[j], point);
         j += 1;
     }
-    MaybeKw::At(point)
+    Some(point)
 }
 
 // E: the operating point that the sheet gives, or the one that the real-time curve has.
-fn point_of(rt: Curve, v: Interval) -> MaybeKw
+fn point_of(rt: Curve, v: Interval) -> Option<Kw>
     ensures { result ≡ to_maybe (point_by v.eop (point_found rt v.pen.0)) }
 {
     let eop = v.eop;
-    if let MaybeKw::At(given) = eop {
-        return MaybeKw::At(given);
+    if let Some(given) = eop {
+        return Some(given);
     }
     point_on(rt, v.pen)
 }
@@ -96,7 +96,7 @@ pub fn standing_of(rt: Curve, v: Interval) -> Standing
 {
     let lags = limits::lags(v);
     match point_of(rt, v) {
-        MaybeKw::At(e) => with_point(lags, e),
-        MaybeKw::Missing => without_point(lags),
+        Some(e) => with_point(lags, e),
+        None => without_point(lags),
     }
 }

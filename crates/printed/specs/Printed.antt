@@ -1,5 +1,5 @@
 -- "Programs": what each program prints of a text.
-use Rattle.std.specs.Prelude.{false, List, [], ℕ, ℤ}
+use Rattle.std.specs.Prelude.{false, List, [], ℕ, ℤ, None, Some}
 use Rattle.exact.specs.Whole.{up_to}
 use Rattle.tariff.specs.declared.Expected.TheVariants.{Any}
 use Rattle.tariff.specs.Hour.{contribution}
@@ -8,7 +8,6 @@ use Rattle.sheet.specs.Settle.{reply_to, hour_said}
 use Rattle.ledger.specs.Day.{Front, front_of, day_replies, day_total}
 use Rattle.ledger.specs.IclDay.{icl_front_of}
 use Rattle.imports.specs.Import.{import_reply}
-use Rattle.answers.specs.declared.Ending.TheVariants.{Plain, Header}
 use Rattle.answers.specs.Answers.{answer_text, ending_of, day_lines, import_line}
 
 -- no text is longer, so that a page of this many bytes holds each of them whole
@@ -29,14 +28,14 @@ day_page ending f = day_lines (ending f.header) f.fault (day_replies f) (day_tot
 
 -- `day`: it says which of its three headers is refused
 abbrev pub header_end : ℕ → List ℕ
-header_end header = ending_of (Header header)
+header_end header = ending_of (Some header)
 
 abbrev pub day_text : List ℕ → List ℕ
 day_text s = day_page header_end (front_of s)
 
 -- `line`: the day of an internal controllable line has one header
 abbrev pub plain_end : ℕ → List ℕ
-plain_end header = ending_of Plain
+plain_end header = ending_of None
 
 abbrev pub line_text : List ℕ → List ℕ
 line_text s = day_page plain_end (icl_front_of s)

@@ -10,7 +10,6 @@ ghost use Rattle.page.specs.Page.{written};
 ghost use Rattle.answers.specs.Answers.{answer_text};
 ghost use Rattle.printed.specs.Printed.{hour_text, day_text, line_text, import_text};
 
-use answers::Ending;
 use tariff::{Answer, Expected};
 
 // No text is longer, as specs/Printed.antt has it.
@@ -47,7 +46,7 @@ pub fn day_text(text: &[u8], page: &mut [u8]) -> usize
     let found = day.found;
     let hours = day.hours;
     let total = day.total;
-    let ending = Ending::Header(day.header);
+    let ending = Some(day.header);
     answers::put_day(page, 0, found, ending, hours, day.count, total)
 }
 
@@ -61,7 +60,7 @@ pub fn line_text(text: &[u8], page: &mut [u8]) -> usize
     let found = day.found;
     let hours = day.hours;
     let total = day.total;
-    answers::put_day(page, 0, found, Ending::Plain, hours, day.count, total)
+    answers::put_day(page, 0, found, None, hours, day.count, total)
 }
 
 // What `import` prints of a text.

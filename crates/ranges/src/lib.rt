@@ -5,9 +5,7 @@ ghost use Rattle.std.specs.Prelude.{◌≡◌, ◌&&◌};
 ghost use Rattle.tariff.specs.Sheet.{is_count, hours_by, is_seconds, is_hour, is_power, is_capacity, is_bid, is_price, curve_in_range, uol_in_range, eop_in_range, ahead_in_range, interval_in_range, is_mark};
 ghost use Rattle.tariff.specs.Controllable.{icl_ahead_in_range, icl_interval_in_range};
 
-use tariff::{
-    Curve, DayAhead, IclInterval, Interval, Kw, LONGEST_DAY, MaybeKw, MovePrice, Price, Seconds,
-};
+use tariff::{Curve, DayAhead, IclInterval, Interval, Kw, LONGEST_DAY, MovePrice, Price, Seconds};
 
 // Whether a day can have so many hours.
 pub fn is_count(count: i64) -> bool
@@ -120,21 +118,21 @@ pub fn curve_in_range(c: Curve) -> bool
 }
 
 // Neither `uol` nor `eop` has a range to keep where the sheet leaves it out.
-fn uol_in_range(u: MaybeKw) -> bool
+fn uol_in_range(u: Option<Kw>) -> bool
     ensures { result ≡ uol_in_range u }
 {
     match u {
-        MaybeKw::Missing => true,
-        MaybeKw::At(limit) => is_capacity(limit),
+        None => true,
+        Some(limit) => is_capacity(limit),
     }
 }
 
-fn eop_in_range(e: MaybeKw) -> bool
+fn eop_in_range(e: Option<Kw>) -> bool
     ensures { result ≡ eop_in_range e }
 {
     match e {
-        MaybeKw::Missing => true,
-        MaybeKw::At(point) => is_power(point),
+        None => true,
+        Some(point) => is_power(point),
     }
 }
 

@@ -1,13 +1,11 @@
 -- What the numbers of a line say: the first is number 0.
-use Rattle.std.specs.Prelude.{if◌then◌else◌, ℕ, ℤ}
+use Rattle.std.specs.Prelude.{if◌then◌else◌, ℕ, ℤ, None, Some}
 use Rattle.exact.specs.Whole.{eq_z}
-use Rattle.tariff.specs.declared.MaybeKw.{MaybeKw}
-use Rattle.tariff.specs.declared.MaybeKw.TheVariants as maybe
 use Rattle.tariff.specs.declared.DayAhead.{DayAhead}
 use Rattle.tariff.specs.declared.Interval.{Interval}
 use Rattle.tariff.specs.declared.Curtailed.{Curtailed}
 use Rattle.tariff.specs.declared.IclInterval.{IclInterval}
-use Rattle.tariff.specs.Units.{kw, price, move_price, seconds}
+use Rattle.tariff.specs.Units.{kw, price, move_price, seconds, MaybeKw}
 use Rattle.text.specs.Number.{missing}
 
 -- line 1 of an hour block, whose first number is the hour
@@ -27,7 +25,7 @@ ahead_of v =
 
 -- an interval line, of which `uol` and `eop` may be missing
 abbrev pub maybe_of : ℤ → MaybeKw
-maybe_of v = if eq_z v missing then maybe.Missing else maybe.At (kw v)
+maybe_of v = if eq_z v missing then None else Some (kw v)
 
 abbrev pub interval_of : (ℕ → ℤ) → Interval
 interval_of v =

@@ -7,7 +7,7 @@ ghost use Rattle.tariff.specs.Import.{blank_curtailed};
 ghost use Rattle.tariff.specs.Controllable.{blank_icl};
 ghost use Rattle.records.specs.Records.{maybe_of, ahead_of, interval_of, curtailed_of, icl_interval_of};
 
-use tariff::{Curtailed, DayAhead, IclInterval, Interval, Kw, MaybeKw, MovePrice, Price, Seconds};
+use tariff::{Curtailed, DayAhead, IclInterval, Interval, Kw, MovePrice, Price, Seconds};
 
 // Line 1 of an hour block; its first number is the hour.
 pub fn ahead_of(v: [i64; 20]) -> DayAhead
@@ -27,13 +27,13 @@ pub fn ahead_of(v: [i64; 20]) -> DayAhead
 }
 
 // 10,000,000, which seven digits cannot say, stands for `uol=-` and for `eop=-`.
-fn maybe_of(v: i64) -> MaybeKw
+fn maybe_of(v: i64) -> Option<Kw>
     ensures { result ≡ maybe_of v }
 {
     if v == 10000000 {
-        MaybeKw::Missing
+        None
     } else {
-        MaybeKw::At(Kw(v))
+        Some(Kw(v))
     }
 }
 
@@ -74,10 +74,10 @@ pub fn blank_interval() -> Interval
         en: Kw(0),
         ae: Kw(0),
         co: Kw(0),
-        eop: MaybeKw::Missing,
+        eop: None,
         pen: Price(0),
         lim: Kw(0),
-        uol: MaybeKw::Missing,
+        uol: None,
         r1: Kw(0),
         r2: Kw(0),
         r3: Kw(0),

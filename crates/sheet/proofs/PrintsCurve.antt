@@ -1,4 +1,5 @@
 -- A printed curve line is read to the curve that it was printed from.
+use Rattle.std.specs.Prelude.{Some}
 use mathlib.Core.Path.{◌≡◌, refl, sym, ap, ap₂, ◌∙◌}
 use mathlib.Core.Bool.{true}
 use mathlib.Core.List.{List, [], ◌∷◌, ◌++◌, append_assoc}
@@ -27,7 +28,6 @@ use Rattle.curves.specs.CurveLine.{after_pair, after_pairs, end_of_pair, price_o
 use Rattle.text.specs.Decimal.{number}
 use Rattle.lines.specs.Print.{fields}
 use Rattle.sheet.specs.Print.{pairs_text, curve_text, CurvePlain}
-use Rattle.text.specs.declared.Next.TheVariants.{At}
 use Rattle.lines.proofs.Holds.{Holds, holds_split, after_both, holds_key, Says, number_said}
 use Rattle.lines.proofs.Prints.{nothing, ◌and◌, say_at, FieldsSaid, fields_said}
 use Rattle.lines.proofs.Fill.{filled_same}
@@ -55,16 +55,16 @@ module _ (c : Curve) (fits : CurveFits c) (s : List ℕ) where
 
   module _ (at : ℕ) where
     record PairsSaid (n : ℕ) : Type 0 where
-      place : after_pairs n s at ≡ At (at + length (pairs_text n c))
+      place : after_pairs n s at ≡ Some (at + length (pairs_text n c))
       ends : (j : ℕ) → j < n → end_of_pair s at j ≡ kw (end_of c j)
       prices : (j : ℕ) → j < n → price_of_pair s at j ≡ price (price_of c j)
 
-    pairs_more : (n : ℕ) (y : List ℕ) → PairsSaid n → after_pair s (at + length (pairs_text n c)) ≡ At (at + length (pairs_text n c) + length y)
+    pairs_more : (n : ℕ) (y : List ℕ) → PairsSaid n → after_pair s (at + length (pairs_text n c)) ≡ Some (at + length (pairs_text n c) + length y)
         → ((j : ℕ) → j < 2 → value_in PAIR s (at + length (pairs_text n c)) j ≡ pair n j)
-        → (after_pairs (suc n) s at ≡ At (at + length (pairs_text n c ++ y))) × ((j : ℕ) → j < suc n → end_of_pair s at j ≡ kw (end_of c j))
+        → (after_pairs (suc n) s at ≡ Some (at + length (pairs_text n c ++ y))) × ((j : ℕ) → j < suc n → end_of_pair s at j ≡ kw (end_of c j))
         × ((j : ℕ) → j < suc n → price_of_pair s at j ≡ price (price_of c j))
     unfolding series_place series_in
-    pairs_more n y o e v = (rw o.place (e ∙ ap At (after_both at (pairs_text n c) y)), λ j l. end j l (dec_lt j n), λ j l. cost j l (dec_lt j n))
+    pairs_more n y o e v = (rw o.place (e ∙ ap Some (after_both at (pairs_text n c) y)), λ j l. end j l (dec_lt j n), λ j l. cost j l (dec_lt j n))
       where
         end : (j : ℕ) → j < suc n → Dec (j < n) → end_of_pair s at j ≡ kw (end_of c j)
         end j l (yes p) = o.ends j p
@@ -116,12 +116,12 @@ module _ (c : Curve) (fits : CurveFits c) (s : List ℕ) where
     few_pairs =
         and_both (le_z (pos 0) (pos c.n)) (le_z (pos c.n) (pos 12)) (true_le (pos 0) (pos c.n) (omega arith)) (true_le (pos c.n) (pos 12) (omega arith))
 
-    pub curve_line_said : curve_line first s at ≡ At (at + length (curve_text first c))
+    pub curve_line_said : curve_line first s at ≡ Some (at + length (curve_text first c))
     unfolding curve_line curve_text
     curve_line_said =
         rw (head_said.place, head_said.values 1 (omega arith), few_pairs, steps_said.place)
         (holds_key (10 ∷ []) s _ rest.1
-        ∙ ap At (after_both (at + length head) (pairs_text c.n c) (10 ∷ []) ∙ after_both at head (pairs_text c.n c ++ (10 ∷ []))))
+        ∙ ap Some (after_both (at + length head) (pairs_text c.n c) (10 ∷ []) ∙ after_both at head (pairs_text c.n c ++ (10 ∷ []))))
 
     pub curve_said_lem : CurvePlain c → curve_said first s at ≡ c
     unfolding curve_said

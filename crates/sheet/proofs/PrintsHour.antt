@@ -1,4 +1,6 @@
 -- The text of an hour's record is read to that record.
+use Rattle.tariff.specs.Units.{MaybeKw}
+use Rattle.std.specs.Prelude.{Some, None}
 use mathlib.Core.Path.{◌≡◌, refl, ap, ◌∙◌}
 use mathlib.Core.Bool.{Bool, true, false}
 use mathlib.Core.List.{List, [], ◌∷◌}
@@ -16,8 +18,6 @@ use Rattle.exact.proofs.Parts.{false-eq_z}
 use Rattle.exact.proofs.Range.{within_lit}
 use Rattle.exact.proofs.Sums.{up_same}
 use Rattle.tariff.specs.declared.Kw.{Kw}
-use Rattle.tariff.specs.declared.MaybeKw.{MaybeKw}
-use Rattle.tariff.specs.declared.MaybeKw.TheVariants as maybe
 use Rattle.tariff.specs.declared.Interval.{Interval}
 use Rattle.tariff.specs.declared.Hour.{Hour}
 use Rattle.tariff.specs.Sheet.{is_power, is_capacity, given_in, interval_in_range}
@@ -32,28 +32,27 @@ use Rattle.blocks.specs.Block.{interval_line, interval_said, interval_at}
 use Rattle.text.specs.Decimal.{number}
 use Rattle.lines.specs.Print.{fields, line}
 use Rattle.sheet.specs.Print.{maybe_text, ahead_texts, amount_texts, intervals_text}
-use Rattle.text.specs.declared.Next.TheVariants.{At}
 use Rattle.lines.proofs.Holds.{Holds, holds_split, after_both, Says, number_said, missing_said}
 use Rattle.lines.proofs.Prints.{AllSay, nothing, ◌and◌, say_at, line_said}
 
 -- ---- the numbers of a line, and the record that they make
 abbrev maybe_value : MaybeKw → ℤ
-maybe_value maybe.Missing = missing
-maybe_value (maybe.At k) = k.0
+maybe_value None = missing
+maybe_value (Some k) = k.0
 
 -- what is missing has no range, and what is not, the range of power at most
 Small : MaybeKw → Type 0
-Small m = (k : Kw) → m ≡ maybe.At k → Within 2000000 k.0
+Small m = (k : Kw) → m ≡ Some k → Within 2000000 k.0
 
 maybe_said : (k : ℕ) → may_miss k ≡ true → (m : MaybeKw) → Small m → Says k (maybe_text m) (maybe_value m)
 unfolding Small
-maybe_said k may maybe.Missing w = missing_said k may
-maybe_said k may (maybe.At z) w = number_said k z.0 (within_lit tt (w z refl))
+maybe_said k may None w = missing_said k may
+maybe_said k may (Some z) w = number_said k z.0 (within_lit tt (w z refl))
 
 maybe_back : (m : MaybeKw) → Small m → maybe_of (maybe_value m) ≡ m
 unfolding Small
-maybe_back maybe.Missing w = refl
-maybe_back (maybe.At k) w = let u : Within 2000000 k.0 = w k refl in rw (false-eq_z k.0 missing (λ z. let q = rw z at u in omega arith))
+maybe_back None w = refl
+maybe_back (Some k) w = let u : Within 2000000 k.0 = w k refl in rw (false-eq_z k.0 missing (λ z. let q = rw z at u in omega arith))
 
 -- both numbers of an interval that may be missing
 record Smalls (v : Interval) : Type 0 where
@@ -64,9 +63,9 @@ smalls : (v : Interval) → interval_in_range v ≡ true → Smalls v
 unfolding Small
 smalls v e = record { eop = go is_power (λ z. power_within) v.eop (eop_fits v e); uol = go is_capacity (λ z. capacity_within) v.uol (uol_fits v e) }
   where
-    go : (in_range : ℤ → Bool) → ((z : ℤ) → in_range z ≡ true → Within 2000000 z) → (m : MaybeKw) → given_in in_range m ≡ true → (k : Kw) → m ≡ maybe.At k → Within 2000000 k.0
-    go in_range within maybe.Missing e k q = impossible cc
-    go in_range within (maybe.At z) e k q = let same : z ≡ k = cc in rw (← same) (within z.0 e)
+    go : (in_range : ℤ → Bool) → ((z : ℤ) → in_range z ≡ true → Within 2000000 z) → (m : MaybeKw) → given_in in_range m ≡ true → (k : Kw) → m ≡ Some k → Within 2000000 k.0
+    go in_range within None e k q = impossible cc
+    go in_range within (Some z) e k q = let same : z ≡ k = cc in rw (← same) (within z.0 e)
 
 abbrev pub ahead_values : Hour → List ℤ
 ahead_values h =
@@ -109,7 +108,7 @@ module _ (h : Hour) (fits : (i : ℕ) → i < h.n → interval_in_range (interva
 
   pub record Row (i : ℕ) : Type 0 where
     pub begun : closes s (place i) ≡ false
-    pub next : interval_line s (place i) ≡ At (place (suc i))
+    pub next : interval_line s (place i) ≡ Some (place (suc i))
     pub same : interval_said s (place i) ≡ interval h i
 
   row_begun : (v : Interval) (i : ℕ) → Holds s i (line INTERVAL 20 (amount_texts v)) → closes s i ≡ false
@@ -125,7 +124,7 @@ module _ (h : Hour) (fits : (i : ℕ) → i < h.n → interval_in_range (interva
       let r = line_said INTERVAL (amount_texts v) (λ j. get_or (values v) j (pos 0)) s (place n) 20 say (omega arith) o in
       record {
         begun = row_begun v (place n) o;
-        next = r.place ∙ ap At (after_both at (intervals_text n h) (line INTERVAL 20 (amount_texts v)));
+        next = r.place ∙ ap Some (after_both at (intervals_text n h) (line INTERVAL 20 (amount_texts v)));
         same = interval_back v (value_in INTERVAL s (place n)) u r.values;
       }
 
@@ -142,7 +141,7 @@ module _ (h : Hour) (fits : (i : ℕ) → i < h.n → interval_in_range (interva
       go before (no p) = let e : i ≡ n = omega arith in rw e (row_said n l r.1)
 
   module _ (row : (i : ℕ) → i < h.n → Row i) where
-    place_said : (n : ℕ) → n ≤ h.n → series_place interval_line s at n ≡ At (place n)
+    place_said : (n : ℕ) → n ≤ h.n → series_place interval_line s at n ≡ Some (place n)
     unfolding series_place intervals_text
     place_said zero l = rw add-zero
     place_said (suc n) l = rw (place_said n (omega arith)) (row n l).next

@@ -1,4 +1,6 @@
 -- A record that is read has counts that its arrays hold, and blanks past them.
+use Rattle.text.specs.Text.{Next}
+use Rattle.std.specs.Prelude.{None, Some}
 use mathlib.Core.Path.{◌≡◌, subst}
 use mathlib.Core.List.{List}
 use Prim.Native.Nat.{ℕ}
@@ -9,8 +11,6 @@ use Rattle.tariff.specs.declared.Hour.{Hour}
 use Rattle.tariff.specs.Units.{kw, price}
 use Rattle.tariff.specs.Reply.{clear}
 use Rattle.tariff.specs.Hour.{blank, form}
-use Rattle.text.specs.declared.Next.{Next}
-use Rattle.text.specs.declared.Next.TheVariants.{At, Wrong}
 use Rattle.keys.specs.Keys.{DA, RT}
 use Rattle.lines.specs.Line.{after_fields, value_in, filled}
 use Rattle.lines.proofs.Fill.{filled_same, filled_at}
@@ -29,8 +29,8 @@ unfolding curve_said
 curve_plain first s at = go (value_in first s at 0) (value_in first s at 1) (after_fields first 2 s at)
   where
     go : (start n : ℤ) (a : Next) → CurvePlain (curve_from start n s a)
-    go start n (At i) = record { ends = filled_plain _ (kw (pos 0)) (over n) 12; prices = filled_plain _ (price (pos 0)) (over n) 12 }
-    go start n Wrong = record { ends = filled_plain _ (kw (pos 0)) 0 12; prices = filled_plain _ (price (pos 0)) 0 12 }
+    go start n (Some i) = record { ends = filled_plain _ (kw (pos 0)) (over n) 12; prices = filled_plain _ (price (pos 0)) (over n) 12 }
+    go start n None = record { ends = filled_plain _ (kw (pos 0)) 0 12; prices = filled_plain _ (price (pos 0)) 0 12 }
 
 -- ---- the block
 pub record Sound (h : Hour) : Type 0 where

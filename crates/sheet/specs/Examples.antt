@@ -1,7 +1,6 @@
 -- Texts and what they are read as: the listing of document 01, and lines that are not as printed.
-use Rattle.std.specs.Prelude.{◌≡◌, refl, List, [], ◌∷◌, ◌++◌, ℕ, replicate, pos}
+use Rattle.std.specs.Prelude.{◌≡◌, refl, List, [], ◌∷◌, ◌++◌, ℕ, replicate, pos, None, Some}
 use Rattle.exact.specs.Whole.{up_to}
-use Rattle.tariff.specs.declared.MaybeKw.TheVariants.{Missing, At}
 use Rattle.tariff.specs.declared.Interval.{Interval}
 use Rattle.tariff.specs.declared.Hour.{Hour}
 use Rattle.tariff.specs.Units.{kw, price, move_price, seconds}
@@ -60,10 +59,10 @@ row en ae co eop lim =
       en = kw (pos en);
       ae = kw (pos ae);
       co = kw (pos co);
-      eop = At (kw (pos eop));
+      eop = Some (kw (pos eop));
       pen = price (pos 5000);
       lim = kw (pos lim);
-      uol = Missing;
+      uol = None;
       r1 = kw (pos 0);
       r2 = kw (pos 0);
       r3 = kw (pos 0);
@@ -186,11 +185,11 @@ line_too_many = refl
 
 -- ---- `eop`: missing, given, and a minus that belongs to no number
 
-no_point : (interval_at (interval (bytes "80000 ae=80000 co=0 eop=-") (bytes "70000")) 0 0).eop ≡ Missing
+no_point : (interval_at (interval (bytes "80000 ae=80000 co=0 eop=-") (bytes "70000")) 0 0).eop ≡ None
 unfolding reading
 no_point = refl
 
-point_of_nothing : (interval_at short 0 0).eop ≡ At (kw (pos 0))
+point_of_nothing : (interval_at short 0 0).eop ≡ Some (kw (pos 0))
 unfolding reading
 point_of_nothing = refl
 
@@ -200,11 +199,11 @@ minus_nothing = refl
 
 -- ---- `uol`: missing, and a limit of 0
 
-no_limit : (interval_at (interval (bytes "80000 ae=80000 co=0 eop=90000") (bytes "70000")) 0 0).uol ≡ Missing
+no_limit : (interval_at (interval (bytes "80000 ae=80000 co=0 eop=90000") (bytes "70000")) 0 0).uol ≡ None
 unfolding reading
 no_limit = refl
 
-limit_of_nothing : (interval_at short 0 0).uol ≡ At (kw (pos 0))
+limit_of_nothing : (interval_at short 0 0).uol ≡ Some (kw (pos 0))
 unfolding reading
 limit_of_nothing = refl
 

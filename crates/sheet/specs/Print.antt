@@ -1,12 +1,10 @@
 -- The text of an hour's record, line by line.
-use Rattle.std.specs.Prelude.{◌≡◌, List, [], ◌∷◌, ◌++◌, ℕ, zero, suc, pos}
+use Rattle.std.specs.Prelude.{◌≡◌, List, [], ◌∷◌, ◌++◌, ℕ, zero, suc, pos, None, Some}
 use Rattle.tariff.specs.declared.Curve.{Curve}
-use Rattle.tariff.specs.declared.MaybeKw.{MaybeKw}
-use Rattle.tariff.specs.declared.MaybeKw.TheVariants.{Missing, At}
 use Rattle.tariff.specs.declared.Interval.{Interval}
 use Rattle.tariff.specs.declared.Hour.{Hour}
 use Rattle.tariff.specs.Sheet.{end_of, price_of}
-use Rattle.tariff.specs.Units.{kw, price}
+use Rattle.tariff.specs.Units.{kw, price, MaybeKw}
 use Rattle.tariff.specs.Hour.{blank, interval}
 use Rattle.text.specs.Text.{LF, bytes}
 use Rattle.keys.specs.Keys.{AHEAD, DA, RT, PAIR, INTERVAL}
@@ -16,8 +14,8 @@ use Rattle.lines.specs.Print.{fields, line}
 
 -- a number that may be missing
 abbrev pub maybe_text : MaybeKw → List ℕ
-maybe_text Missing = bytes "-"
-maybe_text (At k) = number k.0
+maybe_text None = bytes "-"
+maybe_text (Some k) = number k.0
 
 abbrev pub ahead_texts : Hour → List (List ℕ)
 ahead_texts h =

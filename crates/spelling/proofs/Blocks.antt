@@ -1,4 +1,6 @@
 -- A block that is read is spelt as its record is printed, and then it closes.
+use Rattle.text.specs.Text.{Next}
+use Rattle.std.specs.Prelude.{None, Some}
 use mathlib.Core.Path.{◌≡◌, refl, subst}
 use mathlib.Core.List.{List}
 use Prim.Native.Nat.{ℕ}
@@ -7,8 +9,6 @@ use Rattle.exact.specs.Whole.{up_to}
 use Rattle.tariff.specs.declared.Interval.{Interval}
 use Rattle.tariff.specs.declared.Hour.{Hour}
 use Rattle.tariff.specs.Hour.{blank}
-use Rattle.text.specs.declared.Next.{Next}
-use Rattle.text.specs.declared.Next.TheVariants.{At, Wrong}
 use Rattle.keys.specs.Keys.{AHEAD, DA, RT, INTERVAL}
 use Rattle.lines.specs.Line.{value_in}
 use Rattle.lines.specs.Series.{series_place, Series}
@@ -27,16 +27,16 @@ use Rattle.spelling.proofs.Series.{series_spelt}
 use Rattle.spelling.proofs.Curves.{curve_spelt}
 
 module _ (s : List ℕ) where
-  interval_spelt : (at next : ℕ) → interval_line s at ≡ At next → Spelt s at (line INTERVAL 20 (amount_texts (interval_said s at))) next
+  interval_spelt : (at next : ℕ) → interval_line s at ≡ Some next → Spelt s at (line INTERVAL 20 (amount_texts (interval_said s at))) next
   unfolding value_texts value_text up_to
   interval_spelt at next e = line_spelt INTERVAL s at 20 next e
 
 module _ (s : List ℕ) (h : Hour) where
-  module _ (a b : ℕ) (one : ahead_line s 0 ≡ At a) (two : curve_line DA s a ≡ At b) where
+  module _ (a b : ℕ) (one : ahead_line s 0 ≡ Some a) (two : curve_line DA s a ≡ Some b) where
     abbrev hour : (k n : ℕ) → Hour
     hour = hour_with (value_in AHEAD s 0) (curve_said DA s a) (curve_said RT s b) s
 
-    hour_spelt : (k n end : ℕ) → curve_line RT s b ≡ At k → series_place interval_line s k n ≡ At end → Spelt s 0 (text_of (hour k n)) end
+    hour_spelt : (k n end : ℕ) → curve_line RT s b ≡ Some k → series_place interval_line s k n ≡ Some end → Spelt s 0 (text_of (hour k n)) end
     unfolding text_of intervals_text value_texts value_text up_to
     hour_spelt k n end three p =
         let texts : ℕ → List ℕ = λ m. intervals_text m (hour k n) in
@@ -45,7 +45,7 @@ module _ (s : List ℕ) (h : Hour) where
         both_spelt (line_spelt AHEAD s 0 10 a one)
         (both_spelt (curve_spelt DA s a b (omega arith) two) (both_spelt (curve_spelt RT s b k (omega arith) three) series))
 
-    series_read : (k : ℕ) → curve_line RT s b ≡ At k → {r : Series} → Found interval_line 4 30 s k r
+    series_read : (k : ℕ) → curve_line RT s b ≡ Some k → {r : Series} → Found interval_line 4 30 s k r
         → with_series (value_in AHEAD s 0) (curve_said DA s a) (curve_said RT s b) s k r ≡ read h → ClosedText s (text_of h)
     series_read k three (broken_at i) q = absurd (never_read q)
     series_read k three (all n end few place close) q =
@@ -53,17 +53,17 @@ module _ (s : List ℕ) (h : Hour) where
 
     line3_read : (x : Next) → curve_line RT s b ≡ x → after_line3 x (value_in AHEAD s 0) (curve_said DA s a) (curve_said RT s b) s ≡ read h
         → ClosedText s (text_of h)
-    line3_read (At k) e q = series_read k e (series_found interval_line 4 30 s k) q
-    line3_read Wrong e q = absurd (never_read q)
+    line3_read (Some k) e q = series_read k e (series_found interval_line 4 30 s k) q
+    line3_read None e q = absurd (never_read q)
 
-  line2_read : (a : ℕ) → ahead_line s 0 ≡ At a → (x : Next) → curve_line DA s a ≡ x → after_line2 x (value_in AHEAD s 0) (curve_said DA s a) s ≡ read h
+  line2_read : (a : ℕ) → ahead_line s 0 ≡ Some a → (x : Next) → curve_line DA s a ≡ x → after_line2 x (value_in AHEAD s 0) (curve_said DA s a) s ≡ read h
       → ClosedText s (text_of h)
-  line2_read a one (At b) e q = line3_read a b one e (curve_line RT s b) refl q
-  line2_read a one Wrong e q = absurd (never_read q)
+  line2_read a one (Some b) e q = line3_read a b one e (curve_line RT s b) refl q
+  line2_read a one None e q = absurd (never_read q)
 
   line1_read : (x : Next) → ahead_line s 0 ≡ x → after_line1 x s 0 ≡ read h → ClosedText s (text_of h)
-  line1_read (At a) e q = line2_read a e (curve_line DA s a) refl q
-  line1_read Wrong e q = absurd (never_read q)
+  line1_read (Some a) e q = line2_read a e (curve_line DA s a) refl q
+  line1_read None e q = absurd (never_read q)
 
   block_spelt : block_of s ≡ read h → ClosedText s (text_of h)
   unfolding block_of block_at

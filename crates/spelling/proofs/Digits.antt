@@ -9,16 +9,13 @@ use borrow.Author.Tests.{eqb-true, eqb-false, lt-ltb, le-ltb, ltb-false}
 use lib.Dec.{eqb, ltb, lit<}
 use lib.IntN.{ℤ, pos, neg_ℤ}
 use lib.ListN.{drop}
-use Rattle.std.specs.Prelude.{if◌then◌else◌}
+use Rattle.std.specs.Prelude.{if◌then◌else◌, None, Some}
 use Rattle.exact.specs.Whole.{Within}
 use Rattle.exact.proofs.Apart.{impossible}
 use Rattle.exact.proofs.Parts.{by_test}
 use Rattle.text.specs.Text.{byte_at}
-use Rattle.text.specs.Number.{digit_of, digit_at, more_digits, natural_at, plain, negative, number_at}
+use Rattle.text.specs.Number.{digit_of, digit_at, more_digits, natural_at, plain, negative, number_at, Digits}
 use Rattle.text.specs.Decimal.{natural, number}
-use Rattle.text.specs.declared.digits.Digits.{Digits}
-use Rattle.text.specs.declared.digits.Digits.TheVariants.{Natural, NoDigits}
-use Rattle.text.specs.declared.Number.TheVariants.{Got, Bad}
 use Rattle.spelling.specs.Spelt.{Spelt}
 use Rattle.spelling.proofs.Places.{both_spelt, byte_spelt}
 
@@ -65,7 +62,7 @@ module _ (s : List ℕ) where
     text : x ++ drop at s ≡ natural 7 w ++ drop next s
     small : w < 10000000
 
-  digits_stop : (used v at w next : ℕ) (x : List ℕ) → used ≤ 7 → v < 10 ^ used → Printed used v x → Natural v at ≡ Natural w next → DigitsSpelt x at w next
+  digits_stop : (used v at w next : ℕ) (x : List ℕ) → used ≤ 7 → v < 10 ^ used → Printed used v x → Some (v, at) ≡ Some (w, next) → DigitsSpelt x at w next
   digits_stop used v at w next x u b o e =
       let p : v ≡ w = cc in
       let q : at ≡ next = cc in
@@ -75,12 +72,12 @@ module _ (s : List ℕ) where
         small = omega arith;
       }
 
-  digits_spelt : (left used v at w next : ℕ) (x : List ℕ) → 0 < v → used + left ≤ 7 → v < 10 ^ used → Printed used v x → more_digits left v s at ≡ Natural w next
+  digits_spelt : (left used v at w next : ℕ) (x : List ℕ) → 0 < v → used + left ≤ 7 → v < 10 ^ used → Printed used v x → more_digits left v s at ≡ Some (w, next)
       → DigitsSpelt x at w next
   unfolding more_digits
   digits_spelt zero used v at w next x p u b o = λ e. digits_stop used v at w next x (omega arith) b o e
   digits_spelt (suc left) used v at w next x p u b o =
-      by_test (eqb (digit_at s at) 10) (λ t. (if t then Natural v at else more_digits left (v * 10 + digit_at s at) s (at + 1)) ≡ Natural w next → DigitsSpelt x at w next)
+      by_test (eqb (digit_at s at) 10) (λ t. (if t then Some (v, at) else more_digits left (v * 10 + digit_at s at) s (at + 1)) ≡ Some (w, next) → DigitsSpelt x at w next)
       (λ t e. digits_stop used v at w next x (omega arith) b o e)
       (λ t e.
       let d = digit_at s at in
@@ -97,17 +94,17 @@ module _ (s : List ℕ) where
   first_spelt : (at w next : ℕ) → (digit_at s at ≡ 10 → ⊥) → DigitsSpelt ((48 + digit_at s at) ∷ []) (at + 1) w next → DigitsSpelt [] at w next
   first_spelt at w next n r = record { text = (digit_spelt s at n).bytes ∙ r.text; small = r.small }
 
-  natural_spelt : (at w next : ℕ) → natural_at s at ≡ Natural w next → DigitsSpelt [] at w next
+  natural_spelt : (at w next : ℕ) → natural_at s at ≡ Some (w, next) → DigitsSpelt [] at w next
   unfolding natural_at
   natural_spelt at w next =
       let d = digit_at s at in
-      by_test (eqb d 10) (λ t. (if t then NoDigits else (if eqb d 0 then Natural 0 (at + 1) else more_digits 6 d s (at + 1))) ≡ Natural w next → DigitsSpelt [] at w next)
+      by_test (eqb d 10) (λ t. (if t then None else (if eqb d 0 then Some (0, at + 1) else more_digits 6 d s (at + 1))) ≡ Some (w, next) → DigitsSpelt [] at w next)
       (λ t e. impossible cc)
       (λ t.
       let n = eqb-false d 10 t in
       let h = digit_small s at n in
-      by_test (eqb d 0) (λ z. (if z then Natural 0 (at + 1) else more_digits 6 d s (at + 1)) ≡ Natural w next → DigitsSpelt [] at w next)
-      (λ z e. first_spelt at w next n (digits_stop 1 d (at + 1) w next _ (omega arith) (omega arith) (one_printed d h) (ap (λ (v : ℕ). Natural v (at + 1)) (eqb-true d 0 z) ∙ e)))
+      by_test (eqb d 0) (λ z. (if z then Some (0, at + 1) else more_digits 6 d s (at + 1)) ≡ Some (w, next) → DigitsSpelt [] at w next)
+      (λ z e. first_spelt at w next n (digits_stop 1 d (at + 1) w next _ (omega arith) (omega arith) (one_printed d h) (ap (λ (v : ℕ). Some (v, at + 1)) (eqb-true d 0 z) ∙ e)))
       (λ z e. let o = eqb-false d 0 z in first_spelt at w next n (digits_spelt 6 1 d (at + 1) w next _ (omega arith) (omega arith) (omega arith) (one_printed d h) e)))
 
   -- ---- a number
@@ -116,36 +113,36 @@ module _ (s : List ℕ) where
     pub small : Within 9999999 z
 
   module _ (at : ℕ) (z : ℤ) (next : ℕ) where
-    plain_spelt : (d : Digits) → natural_at s at ≡ d → plain d ≡ Got z next → NumberSpelt at z next
-    plain_spelt (Natural v k) e f =
+    plain_spelt : (d : Digits) → natural_at s at ≡ d → plain d ≡ Some (z, next) → NumberSpelt at z next
+    plain_spelt (Some (v, k)) e f =
         let p : pos v ≡ z = cc in
         let q : k ≡ next = cc in
         let r = natural_spelt at v k e in
         let is : NumberSpelt at (pos v) k = record { text = record { bytes = r.text }; small = let u = r.small in omega arith } in
         rw (← p, ← q) is
-    plain_spelt NoDigits e f = impossible cc
+    plain_spelt None e f = impossible cc
 
-    minus_spelt : byte_at s at ≡ 45 → (v k : ℕ) → natural_at s (at + 1) ≡ Natural v k → (v ≡ 0 → ⊥) → NumberSpelt at (neg_ℤ (pos v)) k
+    minus_spelt : byte_at s at ≡ 45 → (v k : ℕ) → natural_at s (at + 1) ≡ Some (v, k) → (v ≡ 0 → ⊥) → NumberSpelt at (neg_ℤ (pos v)) k
     minus_spelt m zero k e n = absurd (n refl)
     minus_spelt m (suc v) k e n =
         let r = natural_spelt (at + 1) (suc v) k e in
         let digits : Spelt s (at + 1) (natural 7 (suc v)) k = record { bytes = r.text } in
         record { text = both_spelt (byte_spelt s at 45 m (lit< tt)) digits; small = let u = r.small in omega arith }
 
-    negative_spelt : byte_at s at ≡ 45 → (d : Digits) → natural_at s (at + 1) ≡ d → negative d ≡ Got z next → NumberSpelt at z next
-    negative_spelt m (Natural v k) e =
-        by_test (eqb v 0) (λ t. (if t then Bad else Got (neg_ℤ (pos v)) k) ≡ Got z next → NumberSpelt at z next)
+    negative_spelt : byte_at s at ≡ 45 → (d : Digits) → natural_at s (at + 1) ≡ d → negative d ≡ Some (z, next) → NumberSpelt at z next
+    negative_spelt m (Some (v, k)) e =
+        by_test (eqb v 0) (λ t. (if t then None else Some (neg_ℤ (pos v), k)) ≡ Some (z, next) → NumberSpelt at z next)
         (λ t f. impossible cc)
         (λ t f.
         let p : neg_ℤ (pos v) ≡ z = cc in
         let q : k ≡ next = cc in
         let is = minus_spelt m v k e (eqb-false v 0 t) in
         rw (← p, ← q) is)
-    negative_spelt m NoDigits e = λ f. impossible cc
+    negative_spelt m None e = λ f. impossible cc
 
-    pub number_spelt : number_at s at ≡ Got z next → NumberSpelt at z next
+    pub number_spelt : number_at s at ≡ Some (z, next) → NumberSpelt at z next
     unfolding number_at
     number_spelt =
-        by_test (eqb (byte_at s at) 45) (λ t. (if t then negative (natural_at s (at + 1)) else plain (natural_at s at)) ≡ Got z next → NumberSpelt at z next)
+        by_test (eqb (byte_at s at) 45) (λ t. (if t then negative (natural_at s (at + 1)) else plain (natural_at s at)) ≡ Some (z, next) → NumberSpelt at z next)
         (λ t e. negative_spelt (eqb-true (byte_at s at) 45 t) (natural_at s (at + 1)) refl e)
         (λ t e. plain_spelt (natural_at s at) refl e)

@@ -10,7 +10,7 @@ use lib.Dec.{eqb, ltb, lit<}
 use lib.IntN.{ℤ, pos, negsuc}
 use lib.ListN.{length, drop}
 use lib.Signed.{le_z}
-use Rattle.std.specs.Prelude.{if◌then◌else◌}
+use Rattle.std.specs.Prelude.{if◌then◌else◌, None, Some}
 use Rattle.exact.specs.Whole.{over, eq_z, up_to}
 use Rattle.exact.proofs.Parts.{by_test}
 use Rattle.exact.proofs.Sums.{up_same}
@@ -21,11 +21,9 @@ use Rattle.tariff.specs.Sheet.{LONGEST_DAY, is_count, all_to, lies_in}
 use Rattle.tariff.specs.Reply.{RANGE, clear}
 use Rattle.tariff.proofs.Tests.{all_at}
 use Rattle.tariff.proofs.Checks.{then_clear}
-use Rattle.text.specs.Text.{key_at}
+use Rattle.text.specs.Text.{key_at, Next}
 use Rattle.text.specs.Number.{digit_at}
 use Rattle.text.specs.Decimal.{number}
-use Rattle.text.specs.declared.Next.{Next}
-use Rattle.text.specs.declared.Next.TheVariants.{At, Wrong}
 use Rattle.keys.specs.Keys.{FORM_LINE, HOURS_LINE, UNIT_LINE, RTC_LINE, CAT_LINE, key_of}
 use Rattle.lines.specs.Cut.{behind}
 use Rattle.lines.specs.Line.{and_then}
@@ -62,11 +60,11 @@ module _ (s : List ℕ) (at : ℕ) where
       let next : at + suc n ≡ at + n + 1 = omega arith in
       rw next (both_spelt (all_spelt n (and_left digits (ltb d 10) e)) (digit_spelt s (at + n) (λ z. omega arith)))
 
-  digits_spelt : (hours next : ℕ) → digits_at hours s at ≡ At next → Spelt s at (up_to (λ h. 48 + digit_at s (at + h)) hours) next
+  digits_spelt : (hours next : ℕ) → digits_at hours s at ≡ Some next → Spelt s at (up_to (λ h. 48 + digit_at s (at + h)) hours) next
   unfolding digits_at
   digits_spelt hours next =
       by_test (all_to (λ h. ltb (digit_at s (at + h)) 10) hours)
-      (λ b. (if b then At (at + hours) else Wrong) ≡ At next → Spelt s at (up_to (λ h. 48 + digit_at s (at + h)) hours) next)
+      (λ b. (if b then Some (at + hours) else None) ≡ Some next → Spelt s at (up_to (λ h. 48 + digit_at s (at + h)) hours) next)
       (λ t e. let q : at + hours ≡ next = cc in rw (← q) (all_spelt hours t))
       (λ t e. absurd (never_at e))
 
@@ -77,17 +75,17 @@ SaysText hours (Row key admitted) s x text = text ≡ row hours (digit_from key 
 SaysText hours (Run key) s x text = ⊥
 SaysText hours Close s x text = Unit {0}
 
-row_spelt : (hours key : ℕ) (s : List ℕ) (at next : ℕ) → row_at hours key s at ≡ At next → Spelt s at (key_of key ++ row hours (digit_from key s (At at))) next
+row_spelt : (hours key : ℕ) (s : List ℕ) (at next : ℕ) → row_at hours key s at ≡ Some next → Spelt s at (key_of key ++ row hours (digit_from key s (Some at))) next
 unfolding row_at row
 row_spelt hours key s at next = go (key_at (key_of key) s at) refl
   where
-    go : (a : Next) → key_at (key_of key) s at ≡ a → and_then a (digits_at hours s) ≡ At next
+    go : (a : Next) → key_at (key_of key) s at ≡ a → and_then a (digits_at hours s) ≡ Some next
         → Spelt s at (key_of key ++ up_to (λ h. 48 + digit_in h s a) hours) next
-    go (At b) p e = both_spelt (key_spelt key s at b p) (digits_spelt s b hours next e)
-    go Wrong p e = absurd (never_at e)
+    go (Some b) p e = both_spelt (key_spelt key s at b p) (digits_spelt s b hours next e)
+    go None p e = absurd (never_at e)
 
 module _ (hours : ℕ) (s : List ℕ) (at : ℕ) where
-  said_spelt : (line : Line) (text : List ℕ) → SaysText hours line s (At at) text → (i : ℕ) → said_at hours line s at ≡ At i
+  said_spelt : (line : Line) (text : List ℕ) → SaysText hours line s (Some at) text → (i : ℕ) → said_at hours line s at ≡ Some i
       → Spelt s at (said_text line text) i
   unfolding said_at fields
   said_spelt (Number key least most) text t i e =
@@ -96,7 +94,7 @@ module _ (hours : ℕ) (s : List ℕ) (at : ℕ) where
   said_spelt (Run key) text t i e = absurd t
   said_spelt Close text t i e = none_spelt s at i (cc)
 
-  pub line_spelt : (line : Line) (text : List ℕ) (next : ℕ) → SaysText hours line s (At at) text → header_line hours line s at ≡ At next
+  pub line_spelt : (line : Line) (text : List ℕ) (next : ℕ) → SaysText hours line s (Some at) text → header_line hours line s at ≡ Some next
       → Spelt s at (said_text line text ++ (10 ∷ [])) next
   unfolding header_line
   line_spelt line text next t e = fed_spelt (said_at hours line s at) (said_spelt line text t) e

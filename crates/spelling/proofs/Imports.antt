@@ -1,10 +1,11 @@
 -- An import's first two lines and its blocks, where they are read, are spelt as they are printed.
+use Rattle.text.specs.Text.{Next}
 use mathlib.Core.Path.{◌≡◌, refl, subst}
 use mathlib.Core.List.{List, [], ◌∷◌, ◌++◌}
 use Prim.Native.Nat.{ℕ}
 use native.Mathlib.Omega.{arith}
 use lib.IntN.{pos}
-use Rattle.std.specs.Prelude.{if◌then◌else◌}
+use Rattle.std.specs.Prelude.{if◌then◌else◌, None, Some}
 use Rattle.exact.specs.Whole.{up_to}
 use Rattle.exact.proofs.Apart.{impossible}
 use Rattle.exact.proofs.Parts.{by_test}
@@ -15,8 +16,6 @@ use Rattle.tariff.specs.Import.{blank_curtailed}
 use Rattle.tariff.specs.Sheet.{USUAL_DAY}
 use Rattle.tariff.proofs.Checks.{then_clear, unless_clear}
 use Rattle.text.specs.Decimal.{number}
-use Rattle.text.specs.declared.Next.{Next}
-use Rattle.text.specs.declared.Next.TheVariants.{At, Wrong}
 use Rattle.keys.specs.Keys.{IMPORT, IMPORT_HOUR, CURTAILED}
 use Rattle.lines.specs.Line.{is_at, place_in, value_in, line_at}
 use Rattle.lines.specs.Series.{series_place, Series}
@@ -34,7 +33,7 @@ use Rattle.spelling.proofs.Series.{series_spelt}
 
 -- ---- the first two lines
 module _ (s : List ℕ) where
-  head_stands : head_fault s ≡ clear → head_place s ≡ At (place_in (head_place s))
+  head_stands : head_fault s ≡ clear → head_place s ≡ Some (place_in (head_place s))
   unfolding head_fault
   head_stands e =
       let range : Verdict = unless (head_in_range s) RANGE 1 in
@@ -43,13 +42,13 @@ module _ (s : List ℕ) where
       is_at_lem (head_place s) (unless_clear (is_at (head_place s)) FORM 2 (then_clear second range behind).0)
 
   -- line 1 has a text for its third pair, which is printed where it has that pair
-  line_stands : (i : ℕ) → head_line s ≡ At i
+  line_stands : (i : ℕ) → head_line s ≡ Some i
       → Spelt s 0 (line IMPORT (pairs_in s) (number (name_in s) ∷ number (cts_in s) ∷ number (count_in s) ∷ [])) i
   unfolding count_in value_texts value_text up_to line fields
   line_stands i =
       by_test (says_hours s)
       (λ t.
-      line_at IMPORT (if t then 3 else 2) s 0 ≡ At i
+      line_at IMPORT (if t then 3 else 2) s 0 ≡ Some i
       → Spelt s 0 (line IMPORT (if t then 3 else 2) (number (name_in s) ∷ number (cts_in s) ∷ number (if t then value_in IMPORT s 0 2 else pos USUAL_DAY) ∷ [])) i)
       (λ e. line_spelt IMPORT s 0 3 i)
       (λ e. line_spelt IMPORT s 0 2 i)
@@ -63,16 +62,16 @@ never_read : {line : ℕ} {h : ImportHour} → broken line ≡ read h → ⊥
 never_read e = impossible cc
 
 module _ (s : List ℕ) where
-  curtailed_spelt : (at next : ℕ) → curtailed_line s at ≡ At next → Spelt s at (line CURTAILED 7 (curtailed_texts (curtailed_said s at))) next
+  curtailed_spelt : (at next : ℕ) → curtailed_line s at ≡ Some next → Spelt s at (line CURTAILED 7 (curtailed_texts (curtailed_said s at))) next
   unfolding value_texts value_text up_to
   curtailed_spelt at next e = line_spelt CURTAILED s at 7 next e
 
 module _ (s : List ℕ) (h : ImportHour) where
-  module _ (k : ℕ) (one : import_hour_line s 0 ≡ At k) where
+  module _ (k : ℕ) (one : import_hour_line s 0 ≡ Some k) where
     abbrev hour : (n : ℕ) → ImportHour
     hour = import_hour_with (value_in IMPORT_HOUR s 0) s k
 
-    hour_spelt : (n end : ℕ) → series_place curtailed_line s k n ≡ At end → Spelt s 0 (block_text (hour n)) end
+    hour_spelt : (n end : ℕ) → series_place curtailed_line s k n ≡ Some end → Spelt s 0 (block_text (hour n)) end
     unfolding block_text curtailed_text value_texts value_text up_to
     hour_spelt n end p =
         let texts : ℕ → List ℕ = λ m. curtailed_text m (hour n) in
@@ -86,8 +85,8 @@ module _ (s : List ℕ) (h : ImportHour) where
         record { end = end; text = subst (λ (g : ImportHour). Spelt s 0 (block_text g) end) (cc) (hour_spelt n end place); close = close }
 
   line_read : (x : Next) → import_hour_line s 0 ≡ x → after_import_line1 x s 0 ≡ read h → ClosedText s (block_text h)
-  line_read (At k) e q = series_read k e (series_found curtailed_line 2 30 s k) q
-  line_read Wrong e q = absurd (never_read q)
+  line_read (Some k) e q = series_read k e (series_found curtailed_line 2 30 s k) q
+  line_read None e q = absurd (never_read q)
 
   block_spelt : import_block_at s 0 ≡ read h → ClosedText s (block_text h)
   unfolding import_block_at

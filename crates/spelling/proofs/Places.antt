@@ -8,12 +8,10 @@ use borrow.Author.Tests.{eqb-true, ltb-true}
 use lib.Dec.{eqb, ltb}
 use lib.ListN.{drop}
 use lib.Seq.{drop-cons}
-use Rattle.std.specs.Prelude.{if◌then◌else◌}
+use Rattle.std.specs.Prelude.{if◌then◌else◌, None, Some}
 use Rattle.exact.proofs.Parts.{by_test}
 use Rattle.exact.proofs.Tests.{and_left, and_right}
-use Rattle.text.specs.Text.{byte_at, key_at}
-use Rattle.text.specs.declared.Next.{Next}
-use Rattle.text.specs.declared.Next.TheVariants.{At, Wrong}
+use Rattle.text.specs.Text.{byte_at, key_at, Next}
 use Rattle.text.proofs.Numbers.{byte_inside}
 use Rattle.keys.specs.Keys.{keys, key_of}
 use Rattle.keys.proofs.AllKeys.{table_all}
@@ -37,23 +35,23 @@ abbrev are_bytes : List ℕ → Bool
 are_bytes [] = true
 are_bytes (b ∷ x) = ltb b 256 && are_bytes x
 
-bytes_spelt : (key s : List ℕ) (at next : ℕ) → are_bytes key ≡ true → key_at key s at ≡ At next → Spelt s at key next
+bytes_spelt : (key s : List ℕ) (at next : ℕ) → are_bytes key ≡ true → key_at key s at ≡ Some next → Spelt s at key next
 unfolding key_at
 bytes_spelt [] s at next a = λ e. none_spelt s at next (cc)
 bytes_spelt (k ∷ ks) s at next a =
-    by_test (eqb (byte_at s at) k) (λ b. (if b then key_at ks s (at + 1) else Wrong) ≡ At next → Spelt s at (k ∷ ks) next)
+    by_test (eqb (byte_at s at) k) (λ b. (if b then key_at ks s (at + 1) else None) ≡ Some next → Spelt s at (k ∷ ks) next)
     (λ t e.
     let first = byte_spelt s at k (eqb-true (byte_at s at) k t) (ltb-true k 256 (and_left (ltb k 256) (are_bytes ks) a)) in
     both_spelt first (bytes_spelt ks s (at + 1) next (and_right (ltb k 256) (are_bytes ks) a) e))
     (λ t e. absurd (never_at e))
 
-pub key_spelt : (k : ℕ) (s : List ℕ) (at next : ℕ) → key_at (key_of k) s at ≡ At next → Spelt s at (key_of k) next
+pub key_spelt : (k : ℕ) (s : List ℕ) (at next : ℕ) → key_at (key_of k) s at ≡ Some next → Spelt s at (key_of k) next
 key_spelt k s at next = bytes_spelt (key_of k) s at next (table_all are_bytes keys k refl refl)
 
 -- ---- the end of a line
-pub feed_spelt : (s : List ℕ) (at next : ℕ) → line_feed s at ≡ At next → Spelt s at (10 ∷ []) next
+pub feed_spelt : (s : List ℕ) (at next : ℕ) → line_feed s at ≡ Some next → Spelt s at (10 ∷ []) next
 feed_spelt s at next = bytes_spelt (10 ∷ []) s at next refl
 
-pub fed_spelt : {s : List ℕ} {at next : ℕ} {x : List ℕ} (a : Next) → ((i : ℕ) → a ≡ At i → Spelt s at x i) → and_then a (line_feed s) ≡ At next → Spelt s at (x ++ (10 ∷ [])) next
-fed_spelt {s} {next = next} (At i) p e = both_spelt (p i refl) (feed_spelt s i next e)
-fed_spelt Wrong p e = absurd (never_at e)
+pub fed_spelt : {s : List ℕ} {at next : ℕ} {x : List ℕ} (a : Next) → ((i : ℕ) → a ≡ Some i → Spelt s at x i) → and_then a (line_feed s) ≡ Some next → Spelt s at (x ++ (10 ∷ [])) next
+fed_spelt {s} {next = next} (Some i) p e = both_spelt (p i refl) (feed_spelt s i next e)
+fed_spelt None p e = absurd (never_at e)

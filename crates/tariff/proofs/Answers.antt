@@ -4,21 +4,17 @@ use mathlib.Core.Bool.{◌&&◌}
 use Prim.Native.Nat.{ℕ}
 use lib.Dec.{eqb}
 use lib.IntN.{ℤ}
-use Rattle.std.specs.Prelude.{if◌then◌else◌}
+use Rattle.std.specs.Prelude.{if◌then◌else◌, Err, Ok}
 use Rattle.tariff.specs.declared.Answer.{Answer}
 use Rattle.tariff.specs.declared.Answer.TheVariants.{Paid, Refused}
 use Rattle.tariff.specs.declared.Check.{Check}
 use Rattle.tariff.specs.declared.Check.TheVariants.{Form, Range, Order, Curve, Seconds, Derate, Reach, Room, Back, Point}
-use Rattle.tariff.specs.declared.Found.{Found}
-use Rattle.tariff.specs.declared.Found.TheVariants.{Nothing, Fault}
-use Rattle.tariff.specs.declared.Worth.{Worth}
-use Rattle.tariff.specs.declared.Worth.TheVariants as worth
 use Rattle.tariff.specs.declared.ImportFault.{ImportFault}
 use Rattle.tariff.specs.declared.ImportFault.TheVariants as found
 use Rattle.tariff.specs.declared.ImportAnswer.{ImportAnswer}
 use Rattle.tariff.specs.declared.ImportAnswer.TheVariants as answer
 use Rattle.tariff.specs.Units.{grains, cents}
-use Rattle.tariff.specs.Reply.{Reply, paid, refused, FORM, RANGE, ORDER, CURVE, SECONDS, DERATE, REACH, ROOM, BACK, Verdict, clear, fault, number_of, place_of, told, shown}
+use Rattle.tariff.specs.Reply.{Reply, paid, refused, FORM, RANGE, ORDER, CURVE, SECONDS, DERATE, REACH, ROOM, BACK, Verdict, clear, fault, number_of, place_of, told, shown, Found, Worth}
 use Rattle.tariff.specs.Import.{Spot, outside, in_hour, ImportReply, worth_told, import_told}
 use Rattle.tariff.specs.Import as import
 
@@ -65,12 +61,12 @@ answer_back (Paid x y) = refl
 answer_back (Refused check) = ap Refused (check_back check)
 
 abbrev pub finding_of : Verdict → Found
-finding_of clear = Nothing
-finding_of (fault number place) = Fault (check_of number place)
+finding_of clear = Ok tt
+finding_of (fault number place) = Err (check_of number place)
 
 pub finding_back : (a : Found) → finding_of (shown a) ≡ a
-finding_back Nothing = refl
-finding_back (Fault check) = ap Fault (check_back check)
+finding_back (Ok tt) = refl
+finding_back (Err check) = ap Err (check_back check)
 
 -- a check v, where its call found s
 pub found_told : {r s : Found} {v : Verdict} → shown r ≡ v → r ≡ s → v ≡ shown s
@@ -79,12 +75,12 @@ found_told e q = sym e ∙ ap shown q
 -- ---- the same of an import
 
 abbrev worth_of : Verdict → ℤ → Worth
-worth_of clear x = worth.Part (grains x)
-worth_of (fault number place) x = worth.Refused (check_of number place)
+worth_of clear x = Ok (grains x)
+worth_of (fault number place) x = Err (check_of number place)
 
 worth_back : (a : Worth) → worth_of (worth_told a).0 (worth_told a).1 ≡ a
-worth_back (worth.Part x) = refl
-worth_back (worth.Refused check) = ap worth.Refused (check_back check)
+worth_back (Ok x) = refl
+worth_back (Err check) = ap Err (check_back check)
 
 -- outside the blocks ORDER stands for the surplus alone, at 0: a check has it at 1
 abbrev import_fault_of : (number : ℕ) → Spot → ImportFault

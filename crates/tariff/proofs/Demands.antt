@@ -15,11 +15,10 @@ use Rattle.tariff.specs.declared.Curve.{Curve}
 use Rattle.tariff.specs.declared.Hour.{Hour}
 use Rattle.tariff.specs.declared.Expected.{Expected}
 use Rattle.tariff.specs.declared.Answer.{Answer}
-use Rattle.tariff.specs.declared.Found.{Found}
 use Rattle.tariff.specs.Units.{cents_of}
 use Rattle.tariff.specs.Sheet.{end_of, price_of, begin_of, curve_keeps}
 use Rattle.tariff.specs.Curve.{known, quote, change, integral}
-use Rattle.tariff.specs.Reply.{Reply, paid, refused, FORM, RANGE, ORDER, CURVE, SECONDS, DERATE, REACH, ROOM, Verdict, told, shown, clear, fault}
+use Rattle.tariff.specs.Reply.{Reply, paid, refused, FORM, RANGE, ORDER, CURVE, SECONDS, DERATE, REACH, ROOM, Verdict, told, shown, clear, fault, Found}
 use Rattle.tariff.specs.Eligible.{lags}
 use Rattle.tariff.specs.Hour.{interval, parts_of, outcome, outcome_at, contribution, block_fault, reply, row_after, form, range, order, intervals}
 use Rattle.tariff.specs.Outcome.{gives}

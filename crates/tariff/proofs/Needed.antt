@@ -1,17 +1,16 @@
 -- Laws of what a generator's interval asks of the curves: its outcome reads its operating point, where it must find one, and the prices of the
 -- kilowatts that it must price, and is stopped for POINT, DERATE and REACH each exactly when the demands' words say.
+use Rattle.tariff.specs.Units.{MaybeKw}
 use mathlib.Core.Path.{◌≡◌, refl}
 use mathlib.Core.Bool.{Bool, true, false}
 use mathlib.Core.Logic.{◌⊎◌, inl, inr}
 use Prim.Native.Nat.{ℕ, ◌<◌}
 use lib.IntN.{ℤ, pos}
-use Rattle.std.specs.Prelude.{if◌then◌else◌}
+use Rattle.std.specs.Prelude.{if◌then◌else◌, None, Some}
 use Rattle.exact.proofs.Apart.{impossible}
 use Rattle.tariff.specs.declared.Curve.{Curve}
 use Rattle.tariff.specs.declared.Interval.{Interval}
 use Rattle.tariff.specs.declared.Hour.{Hour}
-use Rattle.tariff.specs.declared.MaybeKw.{MaybeKw}
-use Rattle.tariff.specs.declared.MaybeKw.TheVariants.{Missing, At}
 use Rattle.tariff.specs.Curve.{Amount, known, none}
 use Rattle.tariff.specs.Eligible.{lags}
 use Rattle.tariff.specs.Derate.{exceeds_room, reduced}
@@ -146,8 +145,8 @@ module _ (h : Hour) (is_excluded : Bool) (i : ℕ) where
     where
       go : (m : MaybeKw) → own.eop ≡ m → is_excluded ≡ false → lags own ≡ false
           → point_by m (point_on h.rt own.pen.0) ≡ point_by m (point_on rt own.pen.0)
-      go (At eop) e x l = refl
-      go Missing e x l = points (record { eligible = record { counted = u; not_excluded = x; not_lagging = l }; not_given = e })
+      go (Some eop) e x l = refl
+      go None e x l = points (record { eligible = record { counted = u; not_excluded = x; not_lagging = l }; not_given = e })
 
   -- an interval is stopped by POINT, by DERATE or by REACH
   pub stops_are : (number : ℕ) → outcome_at h is_excluded i ≡ stops number → (number ≡ POINT) ⊎ ((number ≡ DERATE) ⊎ (number ≡ REACH))

@@ -1,5 +1,6 @@
 -- Laws of the operating point on a curve: which steps are taken, and that it is the first kilowatt that costs more than `pen` or has no price,
 -- however the curve is cut into steps.
+use Rattle.tariff.specs.Units.{MaybeKw}
 use mathlib.Core.Path.{◌≡◌, refl, sym, ◌∙◌, ap}
 use mathlib.Core.Bool.{Bool, true, false}
 use mathlib.Core.Logic.{◌↔◌}
@@ -10,14 +11,12 @@ use borrow.Author.Tests.{eqb-true}
 use lib.Dec.{eqb}
 use lib.IntN.{ℤ}
 use lib.Signed.{lt_z, le_z, ◌≤ℤ◌, ◌<ℤ◌, ≤ℤ_refl}
-use Rattle.std.specs.Prelude.{if◌then◌else◌}
+use Rattle.std.specs.Prelude.{if◌then◌else◌, None, Some}
 use Rattle.exact.specs.Whole.{Within}
 use Rattle.exact.proofs.Apart.{impossible}
 use Rattle.exact.proofs.Parts.{arithℤ, by_test}
 use Rattle.tariff.specs.declared.Curve.{Curve}
 use Rattle.tariff.specs.declared.Interval.{Interval}
-use Rattle.tariff.specs.declared.MaybeKw.{MaybeKw}
-use Rattle.tariff.specs.declared.MaybeKw.TheVariants.{Missing, At}
 use Rattle.tariff.specs.Sheet.{end_of, price_of, begin_of, curve_in_range, eop_in_range, curve_keeps}
 use Rattle.tariff.specs.Curve.{Amount, known, none, quote}
 use Rattle.tariff.specs.Point.{first_dearer, point_on, point_by, point_of}
@@ -74,9 +73,9 @@ needs_steps c pen =
     (λ t e. eqb-true c.n 0 t)
     (λ t e. impossible cc)
 
-pub not_given_lem : (m : MaybeKw) (x : Amount) → point_by m x ≡ none → (m ≡ Missing) × (x ≡ none)
-not_given_lem (At eop) x e = impossible cc
-not_given_lem Missing x e = (refl, e)
+pub not_given_lem : (m : MaybeKw) (x : Amount) → point_by m x ≡ none → (m ≡ None) × (x ≡ none)
+not_given_lem (Some eop) x e = impossible cc
+not_given_lem None x e = (refl, e)
 
 module _ (c : Curve) (pen : ℤ) where
   -- how many steps are taken
@@ -114,8 +113,8 @@ pub point_within : (rt : Curve) (v : Interval) → curve_in_range rt ≡ true �
 point_within rt v e f E = go v.eop f
   where
     go : (m : MaybeKw) → eop_in_range m ≡ true → point_by m (point_on rt v.pen.0) ≡ known E → Within 2000000 E
-    go (At eop) f p = let same : eop.0 ≡ E = cc in rw (← same) (power_within f)
-    go Missing f p =
+    go (Some eop) f p = let same : eop.0 ≡ E = cc in rw (← same) (power_within f)
+    go None f p =
         let t = these rt v.pen.0 in
         rw (point_is rt v.pen.0 p) (begin_within rt e (count rt v.pen.0) (let u = t.up_to in omega arith))
 

@@ -1,4 +1,6 @@
 -- The schedules after a derate lie between the real-time and the day-ahead ones, and so in the range of power.
+use Rattle.tariff.specs.Units.{MaybeKw}
+use Rattle.std.specs.Prelude.{None, Some}
 use mathlib.Core.Path.{◌≡◌}
 use mathlib.Core.Bool.{true, false}
 use Prim.Native.Nat.{ℕ, ◌<◌, ◌≤◌}
@@ -7,8 +9,6 @@ use borrow.Author.Tests.{ltb-false}
 use lib.IntN.{ℤ, pos, ◌-ℤ◌}
 use Rattle.exact.specs.Whole.{over, Within}
 use Rattle.exact.proofs.Parts.{apart, less_parts}
-use Rattle.tariff.specs.declared.MaybeKw.{MaybeKw}
-use Rattle.tariff.specs.declared.MaybeKw.TheVariants.{Missing, At}
 use Rattle.tariff.specs.declared.DayAhead.{DayAhead}
 use Rattle.tariff.specs.declared.Interval.{Interval}
 use Rattle.tariff.specs.Sheet.{ahead_in_range, interval_in_range}
@@ -32,8 +32,8 @@ cut_within d r n u v h =
 
 module _ (a : DayAhead) (v : Interval) (ea : ahead_in_range a ≡ true) (ev : interval_in_range v ≡ true) where
   by_limit : (limit : MaybeKw) → exceeds_under a v limit ≡ false → (j : ℕ) → j < 5 → Within 2000000 (reduced_by a v limit j)
-  by_limit Missing e j u = ahead_within a ea j u
-  by_limit (At limit) e j u =
+  by_limit None e j u = ahead_within a ea j u
+  by_limit (Some limit) e j u =
       cut_within (day_ahead a j) (real_time v j) _ (ahead_within a ea j u) (live_within v ev j u)
       (share_bound (pot_red a v) (red_tot a limit.0) (ltb-false (of_five (pot_red a v)) (red_tot a limit.0) e) j)
 

@@ -1,9 +1,8 @@
 -- The words of the demands: which kilowatts an eligible interval must price, when each check refuses, and what two hours have in common.
-use Rattle.std.specs.Prelude.{◌≡◌, Bool, true, false, ◌&&◌, ℕ, zero, suc, ◌+◌, ◌<◌, ◌≤◌, ℤ, ◌≤ℤ◌, ◌<ℤ◌}
+use Rattle.std.specs.Prelude.{◌≡◌, Bool, true, false, ◌&&◌, ℕ, zero, suc, ◌+◌, ◌<◌, ◌≤◌, ℤ, ◌≤ℤ◌, ◌<ℤ◌, None}
 use Rattle.exact.specs.Whole.{min_z, max_z}
 use Rattle.tariff.specs.declared.Curve.{Curve}
 use Rattle.tariff.specs.declared.Hour.{Hour}
-use Rattle.tariff.specs.declared.MaybeKw.TheVariants.{Missing}
 use Rattle.tariff.specs.declared.Expected.{Expected}
 use Rattle.tariff.specs.declared.Expected.TheVariants.{Says}
 use Rattle.tariff.specs.Sheet.{is_hour, curve_in_range, curve_keeps}
@@ -33,7 +32,7 @@ pub record IsEligible (h : Hour) (is_excluded : Bool) (i : ℕ) : Type 0 where
 -- interval i is eligible and leaves its operating point to the real-time curve
 pub record MustFind (h : Hour) (is_excluded : Bool) (i : ℕ) : Type 0 where
   pub eligible : IsEligible h is_excluded i
-  pub not_given : (interval h i).eop ≡ Missing
+  pub not_given : (interval h i).eop ≡ None
 
 -- interval i is eligible, neither POINT nor DERATE refuses it, and kilowatt k lies between D and the limit
 pub record MustPrice (h : Hour) (is_excluded : Bool) (i : ℕ) (k : ℤ) : Type 0 where

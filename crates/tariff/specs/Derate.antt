@@ -1,8 +1,7 @@
 -- "Derate (25.5)": the reduction of the five day-ahead schedules, shared out in whole kilowatts.
-use Rattle.std.specs.Prelude.{if◌then◌else◌, Bool, true, false, ◌&&◌, ◌||◌, [], ◌∷◌, ℕ, ◌+◌, ◌-◌, ◌*◌, ◌/◌, ◌%◌, ltb, eqb, get_or, ℤ, pos, ◌-ℤ◌}
+use Rattle.tariff.specs.Units.{MaybeKw}
+use Rattle.std.specs.Prelude.{if◌then◌else◌, Bool, true, false, ◌&&◌, ◌||◌, [], ◌∷◌, ℕ, ◌+◌, ◌-◌, ◌*◌, ◌/◌, ◌%◌, ltb, eqb, get_or, ℤ, pos, ◌-ℤ◌, None, Some}
 use Rattle.exact.specs.Whole.{over, sum_to}
-use Rattle.tariff.specs.declared.MaybeKw.{MaybeKw}
-use Rattle.tariff.specs.declared.MaybeKw.TheVariants.{Missing, At}
 use Rattle.tariff.specs.declared.DayAhead.{DayAhead}
 use Rattle.tariff.specs.declared.Interval.{Interval}
 
@@ -57,13 +56,13 @@ share pot red j = floor_of pot red j + one (ltb (rank (remainder pot red) j) (le
 
 -- the reduction exceeds the room for it
 abbrev pub exceeds_under : DayAhead → Interval → MaybeKw → Bool
-exceeds_under a v Missing = false
-exceeds_under a v (At limit) = ltb (of_five (pot_red a v)) (red_tot a limit.0)
+exceeds_under a v None = false
+exceeds_under a v (Some limit) = ltb (of_five (pot_red a v)) (red_tot a limit.0)
 
 -- the schedules that every later rule reads
 abbrev pub reduced_by : DayAhead → Interval → MaybeKw → ℕ → ℤ
-reduced_by a v Missing j = day_ahead a j
-reduced_by a v (At limit) j = day_ahead a j -ℤ pos (share (pot_red a v) (red_tot a limit.0) j)
+reduced_by a v None j = day_ahead a j
+reduced_by a v (Some limit) j = day_ahead a j -ℤ pos (share (pot_red a v) (red_tot a limit.0) j)
 
 unfoldable pub exceeds_room : DayAhead → Interval → Bool
 exceeds_room a v = exceeds_under a v v.uol

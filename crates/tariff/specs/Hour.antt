@@ -1,8 +1,7 @@
 -- The hour: its checks in their order, the contributions of its intervals, the reply, and the lent row.
-use Rattle.std.specs.Prelude.{if◌then◌else◌, Bool, List, ℕ, get_or, ℤ, pos, ◌+ℤ◌}
+use Rattle.std.specs.Prelude.{if◌then◌else◌, Bool, List, ℕ, get_or, ℤ, pos, ◌+ℤ◌, None}
 use Rattle.tariff.specs.declared.Hour.{Hour}
 use Rattle.tariff.specs.declared.Interval.{Interval}
-use Rattle.tariff.specs.declared.MaybeKw.TheVariants.{Missing}
 use Rattle.tariff.specs.declared.Expected.{Expected}
 use Rattle.tariff.specs.Units.{kw, price, move_price, seconds}
 use Rattle.tariff.specs.Sheet.{ahead_in_range, interval_in_range}
@@ -23,10 +22,10 @@ blank =
       en = kw (pos 0);
       ae = kw (pos 0);
       co = kw (pos 0);
-      eop = Missing;
+      eop = None;
       pen = price (pos 0);
       lim = kw (pos 0);
-      uol = Missing;
+      uol = None;
       r1 = kw (pos 0);
       r2 = kw (pos 0);
       r3 = kw (pos 0);

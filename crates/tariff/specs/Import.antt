@@ -1,18 +1,16 @@
 -- "Curtailed imports (25.6)": the ranges of an import's numbers, the checks of a block, what its intervals give, and the day.
-use Rattle.std.specs.Prelude.{if◌then◌else◌, Bool, not, ◌&&◌, ℕ, ◌+◌, leb, get_or, ℤ, pos, ◌-ℤ◌, ◌*ℤ◌}
+use Rattle.std.specs.Prelude.{if◌then◌else◌, Bool, not, ◌&&◌, ℕ, ◌+◌, leb, get_or, ℤ, pos, ◌-ℤ◌, ◌*ℤ◌, Err, Ok}
 use Rattle.std.specs.Int.Signed.{le_z}
 use Rattle.exact.specs.Whole.{max_z, eq_z, sum_to}
 use Rattle.tariff.specs.declared.Curtailed.{Curtailed}
 use Rattle.tariff.specs.declared.ImportHour.{ImportHour}
-use Rattle.tariff.specs.declared.Worth.{Worth}
-use Rattle.tariff.specs.declared.Worth.TheVariants as worth
 use Rattle.tariff.specs.declared.ImportFault.{ImportFault}
 use Rattle.tariff.specs.declared.ImportFault.TheVariants as found
 use Rattle.tariff.specs.declared.ImportAnswer.{ImportAnswer}
 use Rattle.tariff.specs.declared.ImportAnswer.TheVariants as answer
 use Rattle.tariff.specs.Units.{kw, price, seconds, cents_of}
 use Rattle.tariff.specs.Sheet.{is_mark, is_seconds, is_hour, is_capacity, is_price}
-use Rattle.tariff.specs.Reply.{FORM, RANGE, ORDER, SECONDS, Finding, Verdict, clear, fault, unless, ◌then◌, put_in, first_of, number_of, place_of}
+use Rattle.tariff.specs.Reply.{FORM, RANGE, ORDER, SECONDS, Finding, Verdict, clear, fault, unless, ◌then◌, put_in, first_of, number_of, place_of, Worth}
 
 -- ---- ranges: power as capacities, all prices alike
 
@@ -105,8 +103,8 @@ worth_by clear part = (clear, part)
 worth_by (fault number place) part = (fault number place, pos 0)
 
 abbrev pub worth_told : Worth → Verdict × ℤ
-worth_told (worth.Part grains) = (clear, grains.0)
-worth_told (worth.Refused check) = (fault (number_of check) (place_of check), pos 0)
+worth_told (Ok grains) = (clear, grains.0)
+worth_told (Err check) = (fault (number_of check) (place_of check), pos 0)
 
 abbrev pub import_fault_told : ImportFault → ImportReply
 import_fault_told (found.Head check) = refused (number_of check) (outside (place_of check))

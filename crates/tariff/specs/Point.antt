@@ -1,9 +1,8 @@
 -- Request 7, "Operating point from the curve": what `eop=-` leaves to the real-time curve and `pen`.
-use Rattle.std.specs.Prelude.{if◌then◌else◌, ℕ, zero, suc, ◌+◌, eqb, ℤ}
+use Rattle.tariff.specs.Units.{MaybeKw}
+use Rattle.std.specs.Prelude.{if◌then◌else◌, ℕ, zero, suc, ◌+◌, eqb, ℤ, None, Some}
 use Rattle.std.specs.Int.Signed.{le_z}
 use Rattle.tariff.specs.declared.Curve.{Curve}
-use Rattle.tariff.specs.declared.MaybeKw.{MaybeKw}
-use Rattle.tariff.specs.declared.MaybeKw.TheVariants.{Missing, At}
 use Rattle.tariff.specs.declared.Interval.{Interval}
 use Rattle.tariff.specs.Sheet.{price_of, begin_of}
 use Rattle.tariff.specs.Curve.{Amount, known, none}
@@ -20,8 +19,8 @@ point_on c pen = if eqb c.n 0 then none else known (begin_of c (first_dearer (pr
 
 -- E: `eop` where the sheet gives it
 abbrev pub point_by : MaybeKw → Amount → Amount
-point_by (At eop) found = known eop.0
-point_by Missing found = found
+point_by (Some eop) found = known eop.0
+point_by None found = found
 
 abbrev pub point_of : (rt : Curve) → Interval → Amount
 point_of rt v = point_by v.eop (point_on rt v.pen.0)

@@ -1,7 +1,6 @@
 -- Operating points, computed: the curves of samples/hour/point.txt, which docs/answers.md works by hand, and the edges of the request's words.
-use Rattle.std.specs.Prelude.{◌≡◌, refl, ◌∷◌, ℤ, pos, neg_ℤ, replicate}
+use Rattle.std.specs.Prelude.{◌≡◌, refl, ◌∷◌, ℤ, pos, neg_ℤ, replicate, None, Some}
 use Rattle.tariff.specs.declared.Curve.{Curve}
-use Rattle.tariff.specs.declared.MaybeKw.TheVariants.{Missing, At}
 use Rattle.tariff.specs.Units.{kw, price}
 use Rattle.tariff.specs.Curve.{Amount, known, none}
 use Rattle.tariff.specs.Point.{first_dearer, point_on, point_by}
@@ -54,7 +53,7 @@ last_end = refl
 
 -- a curve without steps has no point, and is not asked where `eop` is given
 without_steps : (point_on no_steps (pos 5000) ≡ none)
-    × (point_by Missing (point_on no_steps (pos 5000)) ≡ none)
-    × (point_by (At (kw (pos 7))) (point_on no_steps (pos 5000)) ≡ known (pos 7))
+    × (point_by None (point_on no_steps (pos 5000)) ≡ none)
+    × (point_by (Some (kw (pos 7))) (point_on no_steps (pos 5000)) ≡ known (pos 7))
 unfolding opened
 without_steps = (refl, refl, refl)

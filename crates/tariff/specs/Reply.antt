@@ -1,11 +1,10 @@
 -- "What a call gives back": an hour is paid, with its sum in grains and its cents, or refused with number and place.
-use Rattle.std.specs.Prelude.{Bool, true, false, ℕ, zero, suc, ℤ}
+use Rattle.std.specs.Prelude.{Result, Bool, true, false, ℕ, zero, suc, ℤ, Err, Ok}
+use Rattle.tariff.specs.declared.Grains.{Grains}
 use Rattle.tariff.specs.declared.Answer.{Answer}
 use Rattle.tariff.specs.declared.Answer.TheVariants.{Paid, Refused}
 use Rattle.tariff.specs.declared.Check.{Check}
 use Rattle.tariff.specs.declared.Check.TheVariants.{Form, Range, Order, Curve, Seconds, Derate, Reach, Room, Back, Point}
-use Rattle.tariff.specs.declared.Found.{Found}
-use Rattle.tariff.specs.declared.Found.TheVariants.{Nothing, Fault}
 
 pub data Reply : Type 0 where
   paid : (sum cents : ℤ) → Reply
@@ -72,6 +71,10 @@ abbrev pub told : Answer → Reply
 told (Paid sum cents) = paid sum.0 cents.0
 told (Refused check) = refused (number_of check) (place_of check)
 
+-- what an import's block is worth: its part of the day's sum, or the check that refuses it
+abbrev pub Worth : Type 0
+Worth = Result Grains Check
+
 -- what a check finds: nothing, or a fault at a place. An hour's places are lines and intervals
 pub data Finding (Place : Type 0) : Type 0 where
   clear : Finding Place
@@ -80,9 +83,13 @@ pub data Finding (Place : Type 0) : Type 0 where
 abbrev pub Verdict : Type 0
 Verdict = Finding ℕ
 
+-- the code's word for it: nothing, or the check that refuses
+abbrev pub Found : Type 0
+Found = Result Unit Check
+
 abbrev pub shown : Found → Verdict
-shown Nothing = clear
-shown (Fault check) = fault (number_of check) (place_of check)
+shown (Ok tt) = clear
+shown (Err check) = fault (number_of check) (place_of check)
 
 -- a fault where a rule is broken
 abbrev pub unless : {Place : Type 0} → Bool → ℕ → Place → Finding Place

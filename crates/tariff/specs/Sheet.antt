@@ -1,13 +1,11 @@
 -- "The day sheet": the ranges of its numbers, line by line, and the rules of a curve.
-use Rattle.std.specs.Prelude.{if◌then◌else◌, Bool, true, ◌&&◌, ℕ, zero, suc, eqb, get_or, ℤ, pos, neg_ℤ}
+use Rattle.std.specs.Prelude.{if◌then◌else◌, Bool, true, ◌&&◌, ℕ, zero, suc, eqb, get_or, ℤ, pos, neg_ℤ, None, Some}
 use Rattle.std.specs.Int.Signed.{lt_z, le_z}
 use Rattle.exact.specs.Whole.{over, eq_z}
 use Rattle.tariff.specs.declared.Curve.{Curve}
-use Rattle.tariff.specs.declared.MaybeKw.{MaybeKw}
-use Rattle.tariff.specs.declared.MaybeKw.TheVariants.{Missing, At}
 use Rattle.tariff.specs.declared.DayAhead.{DayAhead}
 use Rattle.tariff.specs.declared.Interval.{Interval}
-use Rattle.tariff.specs.Units.{kw, price}
+use Rattle.tariff.specs.Units.{kw, price, MaybeKw}
 
 -- ---- ranges, both ends included
 
@@ -99,8 +97,8 @@ curve_in_range c = is_power c.start.0 && all_to (step_in_range c) c.n
 
 -- a number that is missing has no range to keep
 abbrev pub given_in : (ℤ → Bool) → MaybeKw → Bool
-given_in in_range Missing = true
-given_in in_range (At k) = in_range k.0
+given_in in_range None = true
+given_in in_range (Some k) = in_range k.0
 
 abbrev pub uol_in_range : MaybeKw → Bool
 uol_in_range = given_in is_capacity

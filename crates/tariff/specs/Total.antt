@@ -1,9 +1,8 @@
 -- A day's total: the sum of the paid cents, or none, so that no refused hour hides behind a figure. And what the code's answers to a
 -- day say in these words.
-use Rattle.std.specs.Prelude.{if◌then◌else◌, ◌≡◌, Bool, List, [], ◌∷◌, ℕ, zero, suc, ℤ, pos, ◌+ℤ◌}
+use Rattle.std.specs.Prelude.{Option, if◌then◌else◌, ◌≡◌, Bool, List, [], ◌∷◌, ℕ, zero, suc, ℤ, pos, ◌+ℤ◌, None, Some}
+use Rattle.tariff.specs.declared.Cents.{Cents}
 use Rattle.tariff.specs.declared.HourAnswer.{HourAnswer}
-use Rattle.tariff.specs.declared.Total.{Total}
-use Rattle.tariff.specs.declared.Total.TheVariants.{Of, Withheld}
 use Rattle.tariff.specs.Reply.{Reply, paid, refused, told}
 
 pub data Sum : Type 0 where
@@ -37,9 +36,13 @@ paid_cents (refused number place) = pos 0
 
 -- ---- what the code gives back, in these words
 
+-- the cents, or none where the total is withheld
+abbrev pub Total : Type 0
+Total = Option Cents
+
 abbrev pub told_total : Total → Sum
-told_total (Of cents) = total cents.0
-told_total Withheld = no_total
+told_total (Some cents) = total cents.0
+told_total None = no_total
 
 unfoldable pub told_all : List HourAnswer → List Reply
 told_all [] = []

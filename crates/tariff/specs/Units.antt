@@ -1,5 +1,5 @@
 -- "Units": kilowatts, cents per MWh and grains are types of their own in the code. Here each is its whole number.
-use Rattle.std.specs.Prelude.{◌+◌, ◌/◌, ℤ, pos, ◌*ℤ◌}
+use Rattle.std.specs.Prelude.{Option, ◌+◌, ◌/◌, ℤ, pos, ◌*ℤ◌}
 use Rattle.tariff.specs.declared.Kw.{Kw}
 use Rattle.tariff.specs.declared.Price.{Price}
 use Rattle.tariff.specs.declared.MovePrice.{MovePrice}
@@ -10,6 +10,10 @@ use Rattle.exact.specs.Whole.{over}
 
 abbrev pub kw : ℤ → Kw
 kw z = record { 0 = z }
+
+-- a power that an interval line may leave out
+abbrev pub MaybeKw : Type 0
+MaybeKw = Option Kw
 
 abbrev pub price : ℤ → Price
 price z = record { 0 = z }

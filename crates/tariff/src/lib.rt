@@ -36,14 +36,6 @@ pub struct Curve {
     pub at: [Price; 12],
 }
 
-// A power that an interval line may leave out, as `-`: the upper operating limit `uol`, which then derates nothing, and the economic operating
-// point `eop`, which is then worked out from the real-time curve.
-#[derive(Clone, Copy)]
-pub enum MaybeKw {
-    Missing,
-    At(Kw),
-}
-
 // Line 1 of a block: day-ahead schedules, and the bids of the last four.
 #[derive(Clone, Copy)]
 pub struct DayAhead {
@@ -58,17 +50,18 @@ pub struct DayAhead {
     pub b3: Price,
 }
 
-// An interval line.
+// An interval line. It may leave out two powers, as `-`: the upper operating limit `uol`, which then derates nothing, and the economic
+// operating point `eop`, which is then worked out from the real-time curve.
 #[derive(Clone, Copy)]
 pub struct Interval {
     pub s: Seconds,
     pub en: Kw,
     pub ae: Kw,
     pub co: Kw,
-    pub eop: MaybeKw,
+    pub eop: Option<Kw>,
     pub pen: Price,
     pub lim: Kw,
-    pub uol: MaybeKw,
+    pub uol: Option<Kw>,
     pub r1: Kw,
     pub r2: Kw,
     pub r3: Kw,
@@ -192,21 +185,6 @@ pub struct HourAnswer {
     pub answer: Answer,
 }
 
-// The sum of a day's paid cents. It is withheld where an hour was refused or bytes follow the last block, so that a refused hour never
-// hides behind a total.
-#[derive(Clone, Copy)]
-pub enum Total {
-    Of(Cents),
-    Withheld,
-}
-
-// What one check finds.
-#[derive(Clone, Copy)]
-pub enum Found {
-    Nothing,
-    Fault(Check),
-}
-
 // A line of a curtailed import's block: what 25.6 reads of an interval. `cut` is 1 where the market curtailed the import.
 #[derive(Clone, Copy)]
 pub struct Curtailed {
@@ -252,13 +230,6 @@ pub struct IclHour {
     pub rt: Curve,
     pub n: usize,
     pub iv: [IclInterval; 30],
-}
-
-// What an import's block is worth: its part of the day's sum, or the check that refuses it.
-#[derive(Clone, Copy)]
-pub enum Worth {
-    Part(Grains),
-    Refused(Check),
 }
 
 // Where an import is refused: in its first two lines, in the block of an hour, or for bytes behind its last block.

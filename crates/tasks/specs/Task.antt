@@ -1,8 +1,7 @@
 -- What an interval asks of the walk: nothing, or, of an internal controllable line, the kilowatts between DASI and AEI.
-use Rattle.std.specs.Prelude.{if◌then◌else◌, false, ◌&&◌, pos, ◌-ℤ◌}
+use Rattle.tariff.specs.Reply.{Found}
+use Rattle.std.specs.Prelude.{if◌then◌else◌, false, ◌&&◌, pos, ◌-ℤ◌, Ok}
 use Rattle.tariff.specs.declared.Kw.{Kw}
-use Rattle.tariff.specs.declared.Found.{Found}
-use Rattle.tariff.specs.declared.Found.TheVariants.{Nothing}
 use Rattle.tariff.specs.declared.IclInterval.{IclInterval}
 use Rattle.tariff.specs.Units.{kw, price, seconds, grains, grains_of}
 use Rattle.tariff.specs.Controllable.{icl_ahead_in_range, icl_interval_in_range, icl_is_lower}
@@ -26,7 +25,7 @@ idle_task stop =
 abbrev pub icl_task : (dasi dasw : Kw) → IclInterval → Task
 icl_task dasi dasw v =
     record {
-      stop = Nothing;
+      stop = Ok tt;
       lower = icl_is_lower dasi v;
       from = dasi;
       limit = v.aei;
@@ -38,4 +37,4 @@ icl_task dasi dasw v =
 
 -- numbers out of their ranges ask nothing: their hour is refused
 unfoldable pub icl_task_of : (dasi dasw : Kw) → IclInterval → Task
-icl_task_of dasi dasw v = if icl_ahead_in_range dasi dasw && icl_interval_in_range v then icl_task dasi dasw v else idle_task Nothing
+icl_task_of dasi dasw v = if icl_ahead_in_range dasi dasw && icl_interval_in_range v then icl_task dasi dasw v else idle_task (Ok tt)

@@ -7,13 +7,13 @@ ghost use Rattle.exact.specs.Whole.{Within};
 ghost use Rattle.tariff.specs.Units.{grains_of};
 ghost use Rattle.tasks.specs.Task.{idle_task, icl_task_of};
 
-use tariff::{Found, Grains, IclInterval, Kw, Price, Seconds};
+use tariff::{Check, Grains, IclInterval, Kw, Price, Seconds};
 
 // To price the kilowatts from `from` to `limit`, on the day-ahead curve if `lower`. What the interval gives besides is counted inside the cap
 // of an upper branch (`beside`), or outside of it (`others`). Where a check stops it, `stop` has the fault.
 #[derive(Clone, Copy)]
 pub struct Task {
-    pub stop: Found,
+    pub stop: Result<(), Check>,
     pub lower: bool,
     pub from: Kw,
     pub limit: Kw,
@@ -24,7 +24,7 @@ pub struct Task {
 }
 
 // Nothing to price and nothing to add: what a lagging interval asks, one of an excluded hour, and one that a check stops.
-pub fn idle(stop: Found) -> Task
+pub fn idle(stop: Result<(), Check>) -> Task
     ensures { result ≡ idle_task stop }
 {
     Task {
@@ -53,7 +53,7 @@ pub fn icl_task(dasi: Kw, dasw: Kw, v: IclInterval) -> Task
     ensures { result ≡ icl_task_of dasi dasw v }
 {
     if !(ranges::icl_ahead_in_range(dasi, dasw) & ranges::icl_interval_in_range(v)) {
-        return idle(Found::Nothing);
+        return idle(Ok(()));
     }
     let lower = units::below(v.en, dasi);
     let capped = withdrawn(dasw, v.aew, v.pout, v.s);
@@ -62,7 +62,7 @@ pub fn icl_task(dasi: Kw, dasw: Kw, v: IclInterval) -> Task
     let pen = v.pin;
     let s = v.s;
     Task {
-        stop: Found::Nothing,
+        stop: Ok(()),
         lower,
         from: dasi,
         limit,

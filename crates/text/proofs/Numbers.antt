@@ -1,4 +1,5 @@
 -- Bytes, digits and numbers at a place of a text, step by step as the code reads them.
+use Rattle.std.specs.Prelude.{None, Some}
 use mathlib.Core.Path.{◌≡◌, refl, sym, ap, ◌∙◌}
 use mathlib.Core.List.{List, [], ◌∷◌}
 use Prim.Native.Nat.{ℕ, zero, suc, ◌+◌, ◌-◌, ◌*◌, ◌^◌, ◌≤◌, ◌<◌}
@@ -15,10 +16,7 @@ use mir.Val.{SFits, to_z}
 use mir.ValLaws.{to_z_pos}
 use Rattle.exact.proofs.Bits.{Is, held, literal, is_less, fits, gives}
 use Rattle.text.specs.Text.{byte_at}
-use Rattle.text.specs.Number.{digit_of, digit_at, more_digits, natural_at, number_at, plain, negative}
-use Rattle.text.specs.declared.digits.Digits.{Digits}
-use Rattle.text.specs.declared.digits.Digits.TheVariants.{Natural, NoDigits}
-use Rattle.text.specs.declared.Number.TheVariants.{Got, Bad}
+use Rattle.text.specs.Number.{digit_of, digit_at, more_digits, natural_at, number_at, plain, negative, Digits}
 
 -- inside a text it does not matter what stands past its end
 pub inside_same : (s : List ℕ) (i d e : ℕ) → i < length s → get_or s i d ≡ get_or s i e
@@ -60,12 +58,12 @@ module _ (s : List ℕ) (i : ℕ) (b : ℕ) (read : b ≡ byte_at s i) where
   digit_read l h = simp (← read, le-ltb _ _ l, le-ltb _ _ h)
 
 -- the digits end where none stands, or none is wanted
-pub more_stops : (left v : ℕ) (s : List ℕ) (i : ℕ) → digit_at s i ≡ 10 → more_digits left v s i ≡ Natural v i
+pub more_stops : (left v : ℕ) (s : List ℕ) (i : ℕ) → digit_at s i ≡ 10 → more_digits left v s i ≡ Some (v, i)
 unfolding more_digits
 more_stops zero v s i h = refl
 more_stops (suc k) v s i h = simp (eq-eqb _ _ h)
 
-pub more_ends : (left v : ℕ) (s : List ℕ) (i : ℕ) → left ≤ 0 → more_digits left v s i ≡ Natural v i
+pub more_ends : (left v : ℕ) (s : List ℕ) (i : ℕ) → left ≤ 0 → more_digits left v s i ≡ Some (v, i)
 unfolding more_digits
 more_ends zero v s i h = refl
 more_ends (suc k) v s i h = absurd (not-suc-le-zero h)
@@ -84,12 +82,12 @@ module _ (s : List ℕ) (i : ℕ) (b : ℕ) (read : b ≡ byte_at s i) where
       rw (← d) (more_goes_on left v s i k (λ e. omega arith))
 
 -- digits with no leading zero
-pub no_natural : (s : List ℕ) (i : ℕ) → digit_at s i ≡ 10 → natural_at s i ≡ NoDigits
+pub no_natural : (s : List ℕ) (i : ℕ) → digit_at s i ≡ 10 → natural_at s i ≡ None
 unfolding natural_at
 no_natural s i h = simp (eq-eqb _ _ h)
 
 module _ (s : List ℕ) (i : ℕ) (b : ℕ) (read : b ≡ byte_at s i) where
-  pub natural_zero : b ≡ 48 → natural_at s i ≡ Natural 0 (i + 1)
+  pub natural_zero : b ≡ 48 → natural_at s i ≡ Some (0, i + 1)
   unfolding natural_at
   natural_zero e =
       let d : digit_at s i ≡ 0 = digit_read s i b read (omega arith) (omega arith) ∙ ap (λ x. x - 48) e in
@@ -129,10 +127,10 @@ module _ (s : List ℕ) (at b first : ℕ) (n : Digits) (read : b ≡ byte_at s 
       simp (← read, eq-eqb _ _ h, behind)
 
 module _ (v next : ℕ) where
-  pub minus_zero : v ≡ 0 → Bad ≡ negative (Natural v next)
+  pub minus_zero : v ≡ 0 → None ≡ negative (Some (v, next))
   minus_zero z = simp (eq-eqb _ _ z)
 
-  pub minus_some : (v ≡ 0 → ⊥) → Got (neg_ℤ (pos v)) next ≡ negative (Natural v next)
+  pub minus_some : (v ≡ 0 → ⊥) → Some (neg_ℤ (pos v), next) ≡ negative (Some (v, next))
   minus_some z = simp (ne_eqb _ _ z)
 
 -- the sign, put on by the machine

@@ -1,10 +1,8 @@
 -- A text is a list of bytes. Past its end stands END, which is no byte.
-use Rattle.std.specs.Prelude.{if◌then◌else◌, ◌≡◌, refl, List, eqb, ℕ, ◌+◌, get_or}
+use Rattle.std.specs.Prelude.{Option, if◌then◌else◌, ◌≡◌, refl, List, eqb, ℕ, ◌+◌, get_or, None, Some}
 use mathlib.Core.List as L
 use Prim.Native.Char.{code}
 use Prim.Native.String.{String, [], ◌∷◌}
-use Rattle.text.specs.declared.Next.{Next}
-use Rattle.text.specs.declared.Next.TheVariants.{At, Wrong}
 
 abbrev pub END : ℕ
 END = 256
@@ -33,9 +31,13 @@ bytes (c ∷ cs) = L.◌∷◌ (code c) (bytes cs)
 they_are : bytes "\n-09" ≡ L.◌∷◌ LF (L.◌∷◌ MINUS (L.◌∷◌ ZERO (L.◌∷◌ NINE L.[])))
 they_are = refl
 
+-- the place after what was looked for, or none where another thing stands there
+abbrev pub Next : Type 0
+Next = Option ℕ
+
 -- a fixed byte string, compared at a place: the place after it
 unfoldable pub key_at : List ℕ → List ℕ → ℕ → Next
-key_at L.[] s at = At at
+key_at L.[] s at = Some at
 key_at (L.◌∷◌ k ks) s at =
     let rest = key_at ks s (at + 1) in
-    if eqb (byte_at s at) k then rest else Wrong
+    if eqb (byte_at s at) k then rest else None

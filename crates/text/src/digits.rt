@@ -4,15 +4,8 @@ ghost use Rattle.text.specs.Number.{more_digits, natural_at, Small};
 
 use crate::byte_at;
 
-// Digits and the place after them, or none.
-#[derive(Clone, Copy)]
-pub enum Digits {
-    Natural(u64, usize),
-    NoDigits,
-}
-
 // Up to six digits more, after a first one.
-pub fn more_digits(s: &[u8], at: usize, first: u64) -> Digits
+pub fn more_digits(s: &[u8], at: usize, first: u64) -> Option<(u64, usize)>
     requires { first < 10 }
     ensures { (result ≡ more_digits 6 first s.now at) × Small result }
 {
@@ -22,34 +15,34 @@ pub fn more_digits(s: &[u8], at: usize, first: u64) -> Digits
     while 0 < left {
         let b = byte_at(s, i);
         if b < 48 {
-            return Digits::Natural(v, i);
+            return Some((v, i));
         }
         if 57 < b {
-            return Digits::Natural(v, i);
+            return Some((v, i));
         }
         v = v * 10 + (b - 48);
         i += 1;
         left -= 1;
     }
-    Digits::Natural(v, i)
+    Some((v, i))
 }
 
 // The digit behind which no other one stands: a zero.
 const LONE_DIGIT: u64 = 48;
 
 // One to seven digits with no leading zero.
-pub fn natural_at(s: &[u8], at: usize) -> Digits
+pub fn natural_at(s: &[u8], at: usize) -> Option<(u64, usize)>
     ensures { (result ≡ natural_at s.now at) × Small result }
 {
     let b = byte_at(s, at);
     if b < 48 {
-        return Digits::NoDigits;
+        return None;
     }
     if 57 < b {
-        return Digits::NoDigits;
+        return None;
     }
     if b == LONE_DIGIT {
-        return Digits::Natural(0, at + 1);
+        return Some((0, at + 1));
     }
     more_digits(s, at + 1, b - 48)
 }

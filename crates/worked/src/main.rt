@@ -2,7 +2,7 @@
 #![tactic(auto)]
 
 use std::io::Stdout;
-use tariff::{Curve, DayAhead, Expected, Hour, Interval, Kw, MaybeKw, MovePrice, Price, Seconds};
+use tariff::{Curve, DayAhead, Expected, Hour, Interval, Kw, MovePrice, Price, Seconds};
 
 // Two steps from 0: the minimum generation block, and the rest up to `end`.
 fn curve_to(end: i64, price: i64) -> Curve {
@@ -27,10 +27,10 @@ fn quarter(en: i64, ae: i64, co: i64, eop: i64, lim: i64) -> Interval {
         en: Kw(en),
         ae: Kw(ae),
         co: Kw(co),
-        eop: MaybeKw::At(Kw(eop)),
+        eop: Some(Kw(eop)),
         pen: Price(5000),
         lim: Kw(lim),
-        uol: MaybeKw::Missing,
+        uol: None,
         r1: Kw(0),
         r2: Kw(0),
         r3: Kw(0),

@@ -1,8 +1,7 @@
 -- `put_day` writes a refused header's refusal, or the hours and the total.
 use mathlib.Core.Path.{sym, ap}
 use lib.ListN.{take}
-use Rattle.tariff.specs.declared.Found.{Found}
-use Rattle.tariff.specs.Reply.{shown}
+use Rattle.tariff.specs.Reply.{shown, Found}
 use Rattle.tariff.specs.Total.{told_total, told_all}
 use Rattle.page.proofs.Pages.{put_then, put_as}
 use Rattle.answers.specs.Answers.{ending_of, day_lines}

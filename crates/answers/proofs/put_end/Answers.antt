@@ -2,8 +2,7 @@
 use mathlib.Core.Path.{sym, ap}
 use mathlib.Core.List.{◌++◌}
 use Rattle.page.proofs.Pages.{put_then, put_as}
-use Rattle.answers.specs.declared.Ending.{Ending}
-use Rattle.answers.specs.Answers.{feed, ending_of}
+use Rattle.answers.specs.Answers.{feed, ending_of, Ending}
 use Rattle.answers.proofs.put_end.Goals as goal
 
 pub returns-in-Plain : goal.returns-in-Plain

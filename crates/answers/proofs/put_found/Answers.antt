@@ -1,7 +1,6 @@
 -- `put_found` writes a refusal, or nothing.
 use mathlib.Core.Path.{sym, ap}
-use Rattle.tariff.specs.declared.Found.{Found}
-use Rattle.tariff.specs.Reply.{shown}
+use Rattle.tariff.specs.Reply.{shown, Found}
 use Rattle.page.proofs.Pages.{put_none, put_as}
 use Rattle.answers.specs.Answers.{refusal_text}
 use Rattle.answers.proofs.put_found.Goals as goal

@@ -3,8 +3,7 @@ use mathlib.Core.Path.{sym, ap}
 use borrow.Author.Rules.{rules}
 use Rattle.exact.proofs.Calls.{handed}
 use Rattle.text.specs.Text.{bytes}
-use Rattle.tariff.specs.Total.{told_total}
-use Rattle.tariff.specs.declared.Total.{Total}
+use Rattle.tariff.specs.Total.{told_total, Total}
 use Rattle.page.proofs.Pages.{put_then, put_as}
 use Rattle.page.specs.Numerals.{valued}
 use Rattle.answers.specs.Answers.{total_line}

@@ -2,8 +2,7 @@
 use mathlib.Core.Path.{sym, ap, ◌∙◌}
 use Prim.Native.Nat.{ℕ}
 use lib.Dec.{eqb}
-use Rattle.tariff.specs.declared.Found.{Found}
-use Rattle.tariff.specs.Reply.{shown}
+use Rattle.tariff.specs.Reply.{shown, Found}
 use Rattle.archive.specs.Told.{is_form}
 use Rattle.archive.proofs.is_form.Goals as goal
 

@@ -1,4 +1,5 @@
 -- `read_header` meets its contract: a header is judged in the form that its first line says, and has its marks where no check refuses it.
+use Rattle.std.specs.Prelude.{Ok}
 use mathlib.Core.Path.{◌≡◌, sym, ◌∙◌, ap}
 use mathlib.Core.Bool.{Bool, true}
 use mathlib.Core.List.{List}
@@ -7,7 +8,6 @@ use native.Mathlib.Numerals.{add-one}
 use native.Mathlib.Omega.{arith}
 use Rattle.exact.proofs.Calls.{handed}
 use Rattle.tariff.specs.declared.Check.{Check}
-use Rattle.tariff.specs.declared.Found.TheVariants.{Nothing}
 use Rattle.tariff.specs.Sheet.{is_count}
 use Rattle.tariff.specs.Reply.{Verdict, clear, fault, shown, number_of, place_of}
 use Rattle.tariff.proofs.Counts.{hours_few}
@@ -43,7 +43,7 @@ module _ (c : After-head_of-head) where
       ∙ ap suc (e ∙ unit_line_lem two judged ∙ ap (λ (form : Form). line_of UNIT_LINE (layout_by form judged)) is-form)
 
   -- no check refuses it
-  module _ (none : c.head_of-head.result.found ≡ Nothing) where
+  module _ (none : c.head_of-head.result.found ≡ Ok tt) where
     clears : header_fault text ≡ clear
     clears = sym (ap shown (sym none) ∙ read.fault)
 

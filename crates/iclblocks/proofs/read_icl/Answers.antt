@@ -1,9 +1,9 @@
 -- `read_icl` meets its contract, line by line.
+use Rattle.text.specs.Text.{Next}
 use mathlib.Core.Path.{◌≡◌, refl, sym, ◌∙◌}
 use mathlib.Core.List.{List}
 use Prim.Native.Nat.{ℕ}
 use native.Mathlib.Omega.{arith}
-use Rattle.text.specs.declared.Next.{Next}
 use Rattle.lines.specs.declared.Fields.{Fields}
 use Rattle.keys.specs.Keys.{ICL_HOUR, DA, RT}
 use Rattle.lines.specs.Line.{fields_at, and_then, line_feed, value_in}

@@ -1,6 +1,6 @@
 -- `piece_after` is behind the next empty line, or at the text's end.
+use Rattle.text.specs.Text.{Next}
 use mathlib.Core.Path.{sym, ◌∙◌, ap}
-use Rattle.text.specs.declared.Next.{Next}
 use Rattle.lines.specs.Pieces.{or_end, piece_after}
 use Rattle.lines.proofs.piece_after.Goals as goal
 

@@ -1,10 +1,10 @@
 -- `interval_of` meets its contract: each value of the array is the number that its bits say.
+use Rattle.tariff.specs.Units.{MaybeKw}
 use mathlib.Core.Path.{ap, ◌∙◌}
 use Prim.Native.Nat.{ℕ}
 use lib.IntN.{ℤ, pos}
 use lib.ListN.{get_or}
 use Rattle.tariff.specs.declared.Interval.{Interval}
-use Rattle.tariff.specs.declared.MaybeKw.{MaybeKw}
 use Rattle.records.specs.Records.{interval_of}
 use Rattle.exact.proofs.Bits.{held}
 use Rattle.exact.proofs.Held.{held_values}

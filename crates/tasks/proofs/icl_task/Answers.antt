@@ -1,11 +1,11 @@
 -- `icl_task` gives what the interval asks: nothing where a number is out of its range, else the kilowatts between DASI and AEI.
+use Rattle.std.specs.Prelude.{Ok}
 use mathlib.Core.Path.{◌≡◌, sym, ◌∙◌}
 use mathlib.Core.Bool.{Bool, ◌&&◌}
 use Rattle.tariff.specs.declared.Kw.{Kw}
 use Rattle.tariff.specs.declared.IclInterval.{IclInterval}
 use Rattle.tariff.specs.Units.{grains}
 use Rattle.tariff.specs.Controllable.{icl_ahead_in_range, icl_interval_in_range}
-use Rattle.tariff.specs.declared.Found.TheVariants.{Nothing}
 use Rattle.tariff.proofs.Ranges.{icl_ahead_fits, icl_interval_fits}
 use Rattle.tariff.proofs.Tests.{and_left, and_right}
 use Rattle.tasks.specs.Task.{icl_task, icl_task_of}
@@ -39,7 +39,7 @@ returns c =
     rw (joined a.dasi a.dasw a.v c.icl_ahead_in_range.ensures c.icl_interval_in_range.ensures c.if-not-icl_ahead_in_range-icl_interval_in_range.false)
     (λ i.
     record {
-      stop = Nothing;
+      stop = Ok tt;
       lower = c.below-lower.ensures i;
       from = a.dasi;
       limit = a.v.aei;

@@ -1,10 +1,10 @@
+use Rattle.std.specs.Prelude.{Some}
 use mathlib.Core.Path.{sym, ap, ◌∙◌}
 use Prim.Native.Nat.{◌+◌}
 use native.Mathlib.Nat.{add_assoc}
 use native.Mathlib.Omega.{arith}
 use lib.ListN.{length, drop}
 use Rattle.text.specs.Text.{key_at}
-use Rattle.text.specs.declared.Next.TheVariants.{At}
 use Rattle.text.proofs.Numbers.{byte_inside}
 use Rattle.text.proofs.Keys.{key_goes_on, key_differs, key_ends, key_too_long, part_byte}
 use Rattle.text.proofs.key_at.Goals as goal
@@ -71,7 +71,7 @@ pub returns : goal.returns
 returns c =
     let l = c.loop-j in
     let a = c.args in
-    sym (l.invariant.2 ∙ key_ends a.key.now a.s.now l.j (a.at + l.j) c.loop-j-test.false ∙ ap At (omega arith))
+    sym (l.invariant.2 ∙ key_ends a.key.now a.s.now l.j (a.at + l.j) c.loop-j-test.false ∙ ap Some (omega arith))
 
 pub bounds-key-0 : goal.bounds-key-0
 bounds-key-0 c = omega (arith, c.if-n-eq0.false)

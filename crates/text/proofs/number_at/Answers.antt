@@ -1,10 +1,10 @@
 -- `number_at` reads a number: its minus, its digits, and no -0.
+use Rattle.std.specs.Prelude.{Some}
 use mathlib.Core.Path.{◌∙◌, sym, ap, subst}
 use native.Mathlib.Omega.{arith}
 use borrow.Author.Rules.{rules}
 use lib.IntN.{ℤ}
 use Rattle.text.specs.Number.{Small}
-use Rattle.text.specs.declared.Number.TheVariants.{Got}
 use Rattle.text.proofs.Numbers.{read_inside, number_plain, number_minus, minus_zero, minus_some}
 use Rattle.text.proofs.number_at.Goals as goal
 use Rattle.text.proofs.number_at.Goals.{then-b-eq45, else-b-eq45}
@@ -23,7 +23,7 @@ returns-then-b-ne45 c =
     let read = c.byte_at-b.ensures in
     let digits = sym c.natural_at-n.ensures.0 ∙ c.in-Natural.is in
     let plus = c.if-b-ne45.true in
-    ap (λ (z : ℤ). Got z c.in-Natural.next) (search rules ∙ c.positive.ensures)
+    ap (λ (z : ℤ). Some (z, c.in-Natural.next)) (search rules ∙ c.positive.ensures)
     ∙ elim c.if-b-eq45.branch [ then-b-eq45 w ↦ absurd (plus w.if-b-eq45.true) | else-b-eq45 w ↦ number_plain _ _ _ _ _ read digits plus w.first-is ]
 
 pub returns-then-v-eq0 : goal.returns-then-v-eq0
@@ -43,7 +43,7 @@ returns-else-v-eq0 c =
     let read = c.byte_at-b.ensures in
     let digits = sym c.natural_at-n.ensures.0 ∙ c.in-Natural.is in
     let minus = c.if-b-ne45.false in
-    ap (λ (z : ℤ). Got z c.in-Natural.next) (search rules ∙ c.negative.ensures)
+    ap (λ (z : ℤ). Some (z, c.in-Natural.next)) (search rules ∙ c.negative.ensures)
     ∙ minus_some _ _ c.if-v-eq0.false
     ∙ elim c.if-b-eq45.branch [ then-b-eq45 w ↦ number_minus _ _ _ _ _ read digits minus w.first-is | else-b-eq45 w ↦ absurd (w.if-b-eq45.false minus) ]
 

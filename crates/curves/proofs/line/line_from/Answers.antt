@@ -1,4 +1,5 @@
 -- `line::line_from` meets its contract: the line's head, a count of at most 12, and its pairs.
+use Rattle.text.specs.Text.{Next}
 use mathlib.Core.Path.{◌≡◌, sym, ◌∙◌, ap}
 use native.Mathlib.Omega.{arith}
 use borrow.Author.Rules.{rules}
@@ -8,7 +9,6 @@ use lib.IntN.{pos}
 use lib.Signed.{mag}
 use lib.ListN.{get_or}
 use Rattle.exact.proofs.Bits.{held}
-use Rattle.text.specs.declared.Next.{Next}
 use Rattle.keys.specs.Keys.{KEYS}
 use Rattle.lines.specs.declared.Fields.{Fields}
 use Rattle.lines.specs.Line.{fields_at, after_fields, value_in}

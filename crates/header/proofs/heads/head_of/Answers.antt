@@ -1,4 +1,5 @@
 -- `heads::head_of` reads a header of a form: the count first, then the form of all lines, then their ranges.
+use Rattle.std.specs.Prelude.{Err}
 use mathlib.Core.Path.{◌≡◌, sym, ◌∙◌, ap, subst}
 use mathlib.Core.Bool.{Bool}
 use mathlib.Core.List.{List}
@@ -7,7 +8,6 @@ use native.Mathlib.Omega.{arith}
 use lib.ListN.{get_or, length}
 use Rattle.exact.proofs.Calls.{handed}
 use Rattle.tariff.specs.declared.Check.{Check}
-use Rattle.tariff.specs.declared.Found.TheVariants.{Fault}
 use Rattle.tariff.specs.Reply.{Verdict, fault, number_of, place_of}
 use Rattle.tariff.specs.Sheet.{is_count, hours_by}
 use Rattle.tariff.proofs.Checks.{never_clear}
@@ -50,7 +50,7 @@ module _ (c : After-hours_by-hours) where
 
   -- a check refuses it
   refused : (check : Check) (at : List ℕ) → layout_fault layout hours text ≡ fault (number_of check) (place_of check)
-      → HeadRead form text (record { found = Fault check; hours = hours; next = 0; at = at })
+      → HeadRead form text (record { found = Err check; hours = hours; next = 0; at = at })
   refused check at e =
       let is = is-fault ∙ e in
       record {

@@ -1,10 +1,10 @@
+use Rattle.text.specs.Text.{Next}
 use mathlib.Core.Path.{◌≡◌, refl, sym, ◌∙◌}
 use mathlib.Core.List.{List}
 use Prim.Native.Nat.{ℕ}
 use native.Mathlib.Omega.{arith}
 use Rattle.tariff.specs.Controllable.{blank_icl}
 use Rattle.keys.specs.Keys.{ICL_INTERVAL}
-use Rattle.text.specs.declared.Next.{Next}
 use Rattle.lines.specs.declared.Fields.{Fields}
 use Rattle.lines.specs.Line.{fields_at, and_then, line_feed}
 use Rattle.lines.proofs.Lines.{FieldsRead, fields_read, line_is}

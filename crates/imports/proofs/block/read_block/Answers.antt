@@ -1,10 +1,10 @@
 -- `block::read_block` meets its contract: line 1, and then the interval lines.
+use Rattle.text.specs.Text.{Next}
 use mathlib.Core.Path.{◌≡◌, refl, ◌∙◌}
 use mathlib.Core.List.{List}
 use Prim.Native.Nat.{ℕ}
 use native.Mathlib.Omega.{arith}
 use borrow.Author.Rules.{rules}
-use Rattle.text.specs.declared.Next.{Next}
 use Rattle.lines.specs.declared.Fields.{Fields}
 use Rattle.lines.specs.Line.{fields_at, and_then, line_feed}
 use Rattle.keys.specs.Keys.{IMPORT_HOUR}

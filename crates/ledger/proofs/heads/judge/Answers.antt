@@ -1,11 +1,11 @@
 -- `heads::judge` meets its contract: each header in the order read, then the units, the day before first.
+use Rattle.std.specs.Prelude.{Ok}
 use mathlib.Core.Path.{◌≡◌, refl, sym, ap, ◌∙◌}
 use mathlib.Core.Bool.{Bool, not, ◌&&◌}
 use mathlib.Core.List.{List}
 use Prim.Native.Nat.{ℕ}
 use Rattle.exact.specs.Whole.{eq_z}
 use Rattle.tariff.specs.Reply.{RANGE, clear, unless, shown}
-use Rattle.tariff.specs.declared.Found.TheVariants.{Nothing}
 use Rattle.header.specs.Header.{header_fault}
 use Rattle.ledger.specs.declared.heads.Head.{Head}
 use Rattle.ledger.specs.Headers.{neighbour_fault, unit_fault}
@@ -15,21 +15,21 @@ use Rattle.ledger.proofs.heads.judge.Goals as goal
 
 -- what a header that was looked at found
 module _ (b o a : List ℕ) (before own after : Head) (rb : NeighbourRead b before) (ro : OwnRead o own) (ra : NeighbourRead a after) where
-  first_clear : before.found ≡ Nothing → neighbour_fault b ≡ clear
+  first_clear : before.found ≡ Ok tt → neighbour_fault b ≡ clear
   first_clear e = sym rb.fault ∙ ap shown e
 
-  second-clear : own.found ≡ Nothing → header_fault o ≡ clear
+  second-clear : own.found ≡ Ok tt → header_fault o ≡ clear
   second-clear e = sym ro.fault ∙ ap shown e
 
-  third-clear : after.found ≡ Nothing → neighbour_fault a ≡ clear
+  third-clear : after.found ≡ Ok tt → neighbour_fault a ≡ clear
   third-clear e = sym ra.fault ∙ ap shown e
 
   -- whether the unit is another, by the code's answer
-  before-unit : before.found ≡ Nothing → own.found ≡ Nothing → (other : Bool) → other ≡ (not before.lacking && not (eq_z before.unit own.unit))
+  before-unit : before.found ≡ Ok tt → own.found ≡ Ok tt → (other : Bool) → other ≡ (not before.lacking && not (eq_z before.unit own.unit))
       → unit_fault b o ≡ unless (not other) RANGE before.line
   before-unit e f other says = unit_judged b o before own rb ro (first_clear e) (second-clear f) other says
 
-  after-unit : own.found ≡ Nothing → after.found ≡ Nothing → (other : Bool) → other ≡ (not after.lacking && not (eq_z after.unit own.unit))
+  after-unit : own.found ≡ Ok tt → after.found ≡ Ok tt → (other : Bool) → other ≡ (not after.lacking && not (eq_z after.unit own.unit))
       → unit_fault a o ≡ unless (not other) RANGE after.line
   after-unit f g other says = unit_judged a o after own ra ro (third-clear g) (second-clear f) other says
 

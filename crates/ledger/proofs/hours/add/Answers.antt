@@ -1,4 +1,5 @@
 -- `hours::add` meets its contract: a refusal withholds the total, and the cents of a paid hour are few enough that the sum fits.
+use Rattle.std.specs.Prelude.{Some}
 use mathlib.Core.Path.{◌≡◌, ap}
 use Prim.Native.Nat.{◌^◌, ◌<◌}
 use native.Mathlib.Omega.{arith}
@@ -9,16 +10,14 @@ use Rattle.tariff.specs.declared.Answer.{Answer}
 use Rattle.tariff.specs.declared.Answer.TheVariants.{Paid}
 use Rattle.tariff.specs.declared.Cents.{Cents}
 use Rattle.tariff.specs.declared.Grains.{Grains}
-use Rattle.tariff.specs.declared.Total.{Total}
-use Rattle.tariff.specs.declared.Total.TheVariants.{Of}
 use Rattle.tariff.specs.Reply.{told}
-use Rattle.tariff.specs.Total.{told_total}
+use Rattle.tariff.specs.Total.{told_total, Total}
 use Rattle.ledger.specs.Walk.{Rounded, UpToCents}
 use Rattle.ledger.proofs.Totals.{rounded_most, add_withheld, add_refused, add_paid}
 use Rattle.ledger.proofs.hours.add.Goals as goal
 
 -- the total so far, and the hour's sum and cents
-sofar_most : (t : Total) (sofar : Cents) → UpToCents 65000000000000 (told_total t) → t ≡ Of sofar → Within 65000000000000 sofar.0
+sofar_most : (t : Total) (sofar : Cents) → UpToCents 65000000000000 (told_total t) → t ≡ Some sofar → Within 65000000000000 sofar.0
 sofar_most t sofar u e = u.most sofar.0 (ap told_total e)
 
 cents_most : (a : Answer) (sum : Grains) (cents : Cents) → Rounded (told a) → a ≡ Paid sum cents → mag sum.0 < 2 ^ 63 → Within 2600000000000 cents.0

@@ -1,3 +1,4 @@
+use Rattle.tariff.specs.Total.{Total}
 use mathlib.Core.Path.{◌≡◌, refl}
 use mathlib.Core.Bool.{Bool}
 use mathlib.Core.List.{List}
@@ -8,7 +9,6 @@ use lib.ListN.{drop}
 use Rattle.tariff.specs.declared.Answer.{Answer}
 use Rattle.tariff.specs.declared.Expected.TheVariants.{Says}
 use Rattle.tariff.specs.declared.HourAnswer.{HourAnswer}
-use Rattle.tariff.specs.declared.Total.{Total}
 use Rattle.tariff.specs.Eligible.{marked}
 use Rattle.tariff.specs.Sheet.{LONGEST_DAY}
 use Rattle.tariff.specs.Reply.{told}
