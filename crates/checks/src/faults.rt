@@ -125,7 +125,12 @@ pub fn curve_fault(da: Curve, rt: Curve) -> Result<(), Check>
 }
 
 // Checks 3 and 4, which follow check 2 and read no interval.
-pub fn order_or_curve_fault(said: i64, da: Curve, rt: Curve, expected: Expected) -> Result<(), Check>
+pub fn order_or_curve_fault(
+    said: i64,
+    da: Curve,
+    rt: Curve,
+    expected: Expected,
+) -> Result<(), Check>
     requires { (da.n ≤ 12) × (rt.n ≤ 12) }
     ensures { shown result ≡ (order_in said expected then curves_in da rt) }
 {
