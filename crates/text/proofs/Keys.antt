@@ -1,52 +1,66 @@
--- A fixed byte string at a place, byte by byte as the code compares it.
-use mathlib.Core.Path.{◌≡◌, refl, ◌∙◌}
-use mathlib.Core.Bool.{Bool, true, false}
+-- A fixed byte string at a place stands there where the text from there on begins with it.
+use mathlib.Core.Path.{◌≡◌, refl, ap, ◌∙◌}
+use mathlib.Core.Bool.{Bool, true, false, ◌&&◌}
 use mathlib.Core.List.{List, [], ◌∷◌}
-use Prim.Native.Nat.{ℕ, suc, ◌+◌, ◌-◌, ◌≤◌, ◌<◌}
+use Prim.Native.Nat.{ℕ, suc, ◌+◌, ◌-◌, ◌<◌, ◌≤◌}
 use native.Mathlib.Decide.{dec_lt}
 use native.Mathlib.Nat.{not-suc-le-zero}
 use native.Mathlib.Numerals.{add-one}
 use native.Mathlib.Omega.{arith}
-use borrow.Author.Tests.{eq-eqb, ne_eqb}
+use borrow.Author.Tests.{ne_eqb}
 use lib.Dec.{eqb}
 use lib.ListN.{length, get_or, take, drop, drop_of_length-le, get_or-eq_default}
-use lib.Seq.{drop-cons, get_or-take, get_or-drop}
-use Rattle.std.specs.Prelude.{if◌then◌else◌, None, Some}
+use lib.Pointwise.{pointwise}
+use Rattle.std.specs.List.{starts_with}
+use Rattle.std.proofs.lemmas.Bool.Decides.{nat_tests}
+use lib.Seq.{drop-cons}
+use Rattle.std.specs.Prelude.{if◌then◌else◌, Option, None, Some}
+use Rattle.std.proofs.lemmas.Slice.{between_to_end}
 use Rattle.text.specs.Text.{byte_at, key_at}
-use Rattle.text.proofs.Numbers.{inside_same}
 
-module _ (key s : List ℕ) (j i : ℕ) where
-  pub key_goes_on : j < length key → byte_at s i ≡ get_or key j 0 → key_at (drop j key) s i ≡ key_at (drop (j + 1) key) s (i + 1)
+module _ (s : List ℕ) (at : ℕ) where
+  pub key_empty : (key : List ℕ) → length key ≤ 0 → Some at ≡ key_at key s at
   unfolding key_at
-  key_goes_on h e = rw (drop-cons key j 0 h, add-one j) (simp (eq-eqb _ _ e))
+  key_empty [] h = refl
+  key_empty (k ∷ ks) h = absurd (not-suc-le-zero h)
 
-  pub key_differs : j < length key → (byte_at s i ≡ get_or key j 0 → ⊥) → key_at (drop j key) s i ≡ None
+  pub key_differs : (key : List ℕ) → 0 < length key → (byte_at s at ≡ get_or key 0 0 → ⊥) → None ≡ key_at key s at
   unfolding key_at
-  key_differs h e = rw (drop-cons key j 0 h) (simp (ne_eqb _ _ e))
+  key_differs [] h n = absurd (not-suc-le-zero h)
+  key_differs (k ∷ ks) h n = simp (ne_eqb _ _ n)
 
-  pub key_ends : length key ≤ j → key_at (drop j key) s i ≡ Some i
-  unfolding key_at
-  key_ends h = rw (drop_of_length-le key h)
+turned : (a b : ℕ) → eqb a b ≡ eqb b a
+turned a b = grind (arith, nat_tests)
 
--- a byte of the part of a text that a key is compared with
-pub part_byte : (s : List ℕ) (at n j : ℕ) → at + n ≤ length s → j < n
-    → get_or (take (at + n - at) (drop at s)) j 0 ≡ byte_at s (at + j)
-part_byte s at n j h k =
-    get_or-take (at + n - at) (drop at s) j 0 (omega arith) ∙ get_or-drop at s j 0 ∙ inside_same s (at + j) 0 256 (omega arith)
+both : (p r q : Bool) (x y : ℕ) → p ≡ r → x ≡ y
+    → if◌then◌else◌ {A = Option ℕ} p (if q then Some x else None) None ≡ (if r && q then Some y else None)
+both false r q x y d e = simp (← d)
+both true r false x y d e = simp (← d)
+both true r true x y d e = simp (← d, e)
 
-pub either_way : (b : Bool) → (if b then None else None) ≡ None
-either_way true = refl
-either_way false = refl
-
--- a key that reaches past the end of a text does not stand there
-pub key_too_long : (key s : List ℕ) (at : ℕ) → ((j : ℕ) → get_or key j 0 < 256) → 0 < length key → length s < at + length key
-    → key_at key s at ≡ None
+-- past the end of a text stands no byte of a key
+pub key_begins : (key s : List ℕ) (at : ℕ) → ((j : ℕ) → get_or key j 0 < 256)
+    → key_at key s at ≡ (if pointwise eqb key (take (length key) (drop at s)) then Some (at + length key) else None)
 unfolding key_at
-key_too_long [] s at f h l = absurd (not-suc-le-zero h)
-key_too_long (k ∷ ks) s at f h l = go (dec_lt at (length s)) (λ p. key_too_long ks s (at + 1) (λ j. f (suc j)) (omega arith) (omega arith))
+key_begins [] s at f = ap Some (omega arith)
+key_begins (k ∷ ks) s at f = go (dec_lt at (length s)) (key_begins ks s (suc at) (λ j. f (suc j)))
   where
-    go : Dec (at < length s) → (at < length s → key_at ks s (at + 1) ≡ None) → key_at (k ∷ ks) s at ≡ None
-    go (yes p) later = rw (later p) (either_way (eqb (byte_at s at) k))
+    go : Dec (at < length s) → key_at ks s (suc at) ≡ (if pointwise eqb ks (take (length ks) (drop (suc at) s)) then Some (suc at + length ks) else None)
+        → key_at (k ∷ ks) s at ≡ (if pointwise eqb (k ∷ ks) (take (suc (length ks)) (drop at s)) then Some (at + suc (length ks)) else None)
+    go (yes p) later = rw (drop-cons s at 256 p, add-one at, later) (both (eqb (byte_at s at) k) (eqb k (byte_at s at)) _ _ _ (turned _ k) (omega arith))
     go (no q) later =
         let o : byte_at s at ≡ 256 = get_or-eq_default s 256 (omega arith) in
-        simp (ne_eqb (byte_at s at) k (λ e. omega (arith, f 0)))
+        rw (drop_of_length-le s {i = at} (omega arith)) (simp (ne_eqb (byte_at s at) k (λ e. omega (arith, f 0))))
+
+-- as the code asks it, of the part that reaches to the text's end
+module _ (key s : List ℕ) (at : ℕ) (same : Bool) (small : (j : ℕ) → get_or key j 0 < 256)
+    (is : same ≡ starts_with eqb (take (length s - at) (drop at s)) key)
+  where
+    begins : same ≡ pointwise eqb key (take (length key) (drop at s))
+    begins = is ∙ ap (λ (t : List ℕ). pointwise eqb key (take (length key) t)) (between_to_end s at (length s) (omega arith))
+
+    pub key_stands : same ≡ true → Some (at + length key) ≡ key_at key s at
+    key_stands t = simp (key_begins key s at small, ← begins, t)
+
+    pub key_stands_not : same ≡ false → None ≡ key_at key s at
+    key_stands_not f = simp (key_begins key s at small, ← begins, f)

@@ -45,8 +45,8 @@ pub fn number_at(s: &[u8], at: usize) -> Option<(i64, usize)>
     Some((digits::negative(v), next))
 }
 
-// A key, a fixed byte string, compared at the cursor: the place after it, or none. Its length is tested once, behind its first byte, and not
-// at each byte.
+// A key, a fixed byte string, compared at the cursor: the place after it, or none. Most keys that do not stand there differ in their first
+// byte, which is looked at before anything else.
 pub fn key_at(s: &[u8], at: usize, key: &[u8]) -> Option<usize>
     ensures { result ≡ key_at key.now s.now at }
 {
@@ -56,9 +56,9 @@ pub fn key_at(s: &[u8], at: usize, key: &[u8]) -> Option<usize>
     if byte_at(s, at) != u64::from(*first) {
         return None;
     }
-    if s.len() - at < key.len() {
-        return None;
+    if s[at..].starts_with(key) {
+        Some(at + key.len())
+    } else {
+        None
     }
-    let end = at + key.len();
-    if &s[at..end] == key { Some(end) } else { None }
 }
