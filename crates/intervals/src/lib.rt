@@ -101,10 +101,7 @@ pub fn work_out_icl(h: IclHour, excluded: bool, expected: Expected) -> Contribut
 pub fn import_part(h: ImportHour, cts: i64, k: usize, hours: usize) -> Result<Grains, Check>
     ensures { worth_told result ≡ worth_by (import_fault hours h k) (import_part cts h) }
 {
-    let fault = checks::import_fault(h, k, hours);
-    if let Err(check) = fault {
-        return Err(check);
-    }
+    checks::import_fault(h, k, hours)?;
     let sum = curtailed::curtailed_sum(h, cts);
     Ok(units::gain_or_zero(sum))
 }

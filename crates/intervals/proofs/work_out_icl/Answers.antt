@@ -7,10 +7,10 @@ use Rattle.intervals.proofs.Fits.{icl_tasks_walkable, icl_asked_outcome}
 use Rattle.intervals.proofs.Works.{no_fault_says, refused_by_block, contributions_alike}
 use Rattle.intervals.proofs.work_out_icl.Goals as goal
 
-pub returns-in-Fault : goal.returns-in-Fault
-returns-in-Fault c =
+pub returns-in-Err : goal.returns-in-Err
+returns-in-Err c =
     refused_by_block c.refused_by.result _ c.refused_by.ensures
-    (found_told c.icl_fault-fault.ensures c.in-Fault.is)
+    (found_told c.icl_fault-fault.ensures c.in-Err.is)
 
 -- where the block has no fault
 pub tasks_of-tasks-requires : goal.tasks_of-tasks-requires

@@ -4,9 +4,9 @@ use Rattle.tariff.proofs.Answers.{found_told}
 use Rattle.intervals.proofs.Works.{refused_by_walk, worked_out_lem}
 use Rattle.intervals.proofs.worked_out.Goals as goal
 
-pub returns-in-Fault : goal.returns-in-Fault
-returns-in-Fault c =
-    refused_by_walk refl c.refused_by.result _ c.refused_by.ensures (found_told c.walk-w.ensures.first c.in-Fault.is)
+pub returns-in-Err : goal.returns-in-Err
+returns-in-Err c =
+    refused_by_walk refl c.refused_by.result _ c.refused_by.ensures (found_told c.walk-w.ensures.first c.in-Err.is)
 
 pub sum_of-sum-requires : goal.sum_of-sum-requires
 sum_of-sum-requires c = (c.requires.few, c.walk-w.ensures.bounded)

@@ -60,8 +60,8 @@ hour-preserved c =
 pub returns-then-n-i : goal.returns-then-n-i
 returns-then-n-i c = walk_ends c.hour.invariant.1 c.if-n-i.true
 
-pub returns-in-Fault : goal.returns-in-Fault
-returns-in-Fault c = turn_stops c.requires c.if-n-i.false c.hour.invariant.1 c.in-Fault.is
+pub returns-in-Err : goal.returns-in-Err
+returns-in-Err c = turn_stops c.requires c.if-n-i.false c.hour.invariant.1 c.in-Err.is
 
 pub returns-then-below-2 : goal.returns-then-below-2
 returns-then-below-2 c =
