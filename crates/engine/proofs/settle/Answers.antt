@@ -6,11 +6,11 @@ use Rattle.tariff.specs.Hour.{outcome_at, block_fault}
 use Rattle.lent.proofs.Settled.{settles_refused, settles_paid}
 use Rattle.engine.proofs.settle.Goals as goal
 
-pub returns-in-Fault : goal.returns-in-Fault
-returns-in-Fault c =
+pub returns-in-Err : goal.returns-in-Err
+returns-in-Err c =
     let s = c.args in
     let of = c.work_out-c.ensures in
-    let e = sym of.found ∙ ap shown c.in-Fault.is in
+    let e = sym of.found ∙ ap shown c.in-Err.is in
     let a = settles_refused (block_fault s.h s.expected) (outcome_at s.h s.excluded) s.h.n s.row.now _ _ e in
     record { reply = a.told; row = a.left }
 
