@@ -30,11 +30,7 @@ pub fn ahead_of(v: [i64; 20]) -> DayAhead
 fn maybe_of(v: i64) -> Option<Kw>
     ensures { result ≡ maybe_of v }
 {
-    if v == 10000000 {
-        None
-    } else {
-        Some(Kw(v))
-    }
+    if v == 10000000 { None } else { Some(Kw(v)) }
 }
 
 // An interval line.
