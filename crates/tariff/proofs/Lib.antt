@@ -23,6 +23,7 @@ pub mod Points
 pub mod Branches
 pub mod Needed
 pub mod IclNeeded
+pub mod Order
 pub mod Ordered
 pub mod Alike
 pub mod ByInterval

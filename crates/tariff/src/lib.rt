@@ -5,26 +5,28 @@
 ghost use Rattle.std.specs.Prelude.{◌≡◌};
 ghost use Rattle.tariff.specs.Reply.{number_of, place_of};
 
+mod sums;
+
 // Power in whole kilowatts. Withdrawal is negative.
-#[derive(Clone, Copy)]
+#[derive(Clone, Copy, PartialEq, Eq, PartialOrd, Ord)]
 pub struct Kw(pub i64);
 
 // Cents per MWh.
-#[derive(Clone, Copy)]
+#[derive(Clone, Copy, PartialEq, Eq, PartialOrd, Ord)]
 pub struct Price(pub i64);
 
 // Cents per MW, the price of regulation movement.
-#[derive(Clone, Copy)]
+#[derive(Clone, Copy, PartialEq, Eq, PartialOrd, Ord)]
 pub struct MovePrice(pub i64);
 
-#[derive(Clone, Copy)]
+#[derive(Clone, Copy, PartialEq, Eq, PartialOrd, Ord)]
 pub struct Seconds(pub i64);
 
 // 1/3,600,000 cent: one kilowatt at one cent per MWh for one second.
-#[derive(Clone, Copy)]
+#[derive(Clone, Copy, PartialEq, Eq, PartialOrd, Ord)]
 pub struct Grains(pub i64);
 
-#[derive(Clone, Copy)]
+#[derive(Clone, Copy, PartialEq, Eq, PartialOrd, Ord)]
 pub struct Cents(pub i64);
 
 // A bid curve: from `start` on, `n` steps, each up to its end `to` at its price `at`.
@@ -123,7 +125,7 @@ pub enum Expected {
 
 // The check that refuses, and its place: a line of the block, or an interval from 1. Four have one place only. Back is request 2's: a day of
 // 23 or 25 hours has no form 1. Point is request 7's: no step to work an operating point out from.
-#[derive(Clone, Copy)]
+#[derive(Clone, Copy, PartialEq, Eq)]
 pub enum Check {
     Form(usize),
     Range(usize),

@@ -1,0 +1,32 @@
+-- The lesser and the greater of two quantities of one unit, as the library's `min` and `max` choose them by the derived order, are those of
+-- their whole numbers.
+use mathlib.Core.Path.{◌≡◌}
+use mathlib.Core.Bool.{Bool, true, false, cond}
+use lib.IntN.{ℤ}
+use lib.Signed.{lt_z}
+use Rattle.std.specs.Ordering.{is_lt, ord_min, ord_max}
+use Rattle.std.proofs.Common.{Ordering, Less, Equal, Greater, int_cmp}
+use Rattle.exact.specs.Whole.{min_z, max_z}
+use Rattle.exact.proofs.Parts.{arithℤ, by_test, min_parts, max_parts}
+
+module _ {X : Type 0} (number : X → ℤ) (a b : X) where
+  abbrev by_number : X → X → Ordering
+  by_number x y = int_cmp (number x) (number y)
+
+  -- the order's answer, by the two tests of it
+  abbrev order : Bool → Bool → Ordering
+  order above below = cond above Less (cond below Greater Equal)
+
+  pub lesser : number (ord_min by_number a b) ≡ min_z (number a) (number b)
+  lesser =
+      by_test (lt_z (number b) (number a))
+      (λ t. number (cond (is_lt (order t (lt_z (number a) (number b)))) b a) ≡ min_z (number a) (number b))
+      (λ e. omega (arithℤ, min_parts (number a) (number b)))
+      (λ e. by_test (lt_z (number a) (number b)) (λ t. number (cond (is_lt (order false t)) b a) ≡ min_z (number a) (number b)) (λ f. omega (arithℤ, min_parts (number a) (number b))) (λ f. omega (arithℤ, min_parts (number a) (number b))))
+
+  pub greater : number (ord_max by_number a b) ≡ max_z (number a) (number b)
+  greater =
+      by_test (lt_z (number b) (number a))
+      (λ t. number (cond (is_lt (order t (lt_z (number a) (number b)))) a b) ≡ max_z (number a) (number b))
+      (λ e. omega (arithℤ, max_parts (number a) (number b)))
+      (λ e. by_test (lt_z (number a) (number b)) (λ t. number (cond (is_lt (order false t)) a b) ≡ max_z (number a) (number b)) (λ f. omega (arithℤ, max_parts (number a) (number b))) (λ f. omega (arithℤ, max_parts (number a) (number b))))
