@@ -1,9 +1,11 @@
 -- The lesser and the greater of two quantities of one unit, as the library's `min` and `max` choose them by the derived order, are those of
 -- their whole numbers.
 use mathlib.Core.Path.{◌≡◌}
-use mathlib.Core.Bool.{Bool, true, false, cond}
+use mathlib.Core.Bool.{Bool, false, cond}
 use lib.IntN.{ℤ}
 use lib.Signed.{lt_z}
+use Rattle.tariff.specs.declared.Kw.{Kw}
+use Rattle.tariff.specs.contracts.KwOrd.TheImpl as kw_order
 use Rattle.std.specs.Ordering.{is_lt, ord_min, ord_max}
 use Rattle.std.proofs.Common.{Ordering, Less, Equal, Greater, int_cmp}
 use Rattle.exact.specs.Whole.{min_z, max_z}
@@ -30,3 +32,11 @@ module _ {X : Type 0} (number : X → ℤ) (a b : X) where
       (λ t. number (cond (is_lt (order t (lt_z (number a) (number b)))) a b) ≡ max_z (number a) (number b))
       (λ e. omega (arithℤ, max_parts (number a) (number b)))
       (λ e. by_test (lt_z (number a) (number b)) (λ t. number (cond (is_lt (order false t)) a b) ≡ max_z (number a) (number b)) (λ f. omega (arithℤ, max_parts (number a) (number b))) (λ f. omega (arithℤ, max_parts (number a) (number b))))
+
+-- ---- of kilowatts
+
+pub min_kw : (a b : Kw) → (ord_min kw_order.cmp-value.it a b).0 ≡ min_z a.0 b.0
+min_kw = lesser (λ (k : Kw). k.0)
+
+pub max_kw : (a b : Kw) → (ord_max kw_order.cmp-value.it a b).0 ≡ max_z a.0 b.0
+max_kw = greater (λ (k : Kw). k.0)

@@ -30,7 +30,7 @@ pub fn price_at_most(a: Price, b: Price) -> bool
 pub fn kw_min(a: Kw, b: Kw) -> Kw
     ensures { result.0 ≡ min_z a.0 b.0 }
 {
-    a.min(b)
+    if a.0 < b.0 { a } else { b }
 }
 
 pub fn kw_max(a: Kw, b: Kw) -> Kw

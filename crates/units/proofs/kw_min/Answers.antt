@@ -1,16 +1,10 @@
-use mathlib.Core.Path.{◌≡◌, refl, ap, ◌∙◌}
-use lib.IntN.{ℤ}
-use lib.Signed.{lt_z}
-use Rattle.std.specs.Ordering.{is_lt, ord_min}
-use Rattle.std.proofs.Common.{rules}
-use Rattle.exact.specs.Whole.{min_z}
-use Rattle.tariff.specs.declared.Kw.{Kw}
-use Rattle.tariff.specs.contracts.KwOrd.TheImpl as kw_order
+-- `kw_min` meets its contract: the lesser of the two, by the test.
+use native.Mathlib.Omega.{arith}
+use Rattle.exact.proofs.Bits.{min_yes, min_no}
 use Rattle.units.proofs.kw_min.Goals as goal
 
-below : (a b : Kw) → is_lt (kw_order.cmp-value.it b a) ≡ lt_z b.0 a.0
-below a b = refl
+pub returns-then-a-b : goal.returns-then-a-b
+returns-then-a-b c = min_yes _ _ (omega arith) (omega arith) c.if-a-b.true
 
-pub returns : goal.returns
-unfolding min_z
-returns c = rw c.min.ensures ?
+pub returns-else-a-b : goal.returns-else-a-b
+returns-else-a-b c = min_no _ _ (omega arith) (omega arith) c.if-a-b.false
