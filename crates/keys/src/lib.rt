@@ -5,7 +5,6 @@ ghost use Rattle.std.specs.Prelude.{◌≡◌};
 ghost use Rattle.text.specs.Text.{key_at};
 ghost use Rattle.keys.specs.Keys.{key_of, may_miss};
 
-
 mod table;
 
 // The number of the first key of each kind of line, as specs/Keys.antt has them: line 1 of an hour block, its curve lines and their

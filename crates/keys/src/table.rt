@@ -4,7 +4,6 @@ ghost use Rattle.std.specs.Prelude.{◌≡◌, ◌+◌, ◌<◌};
 ghost use Rattle.text.specs.Text.{key_at};
 ghost use Rattle.keys.specs.Keys.{AHEAD, DA, INTERVAL, RESERVES, REGULATION, IMPORT, CURTAILED, HEADER, LINE_LINE, key_of};
 
-
 // Line 1 of an hour block.
 pub fn ahead_key(s: &[u8], at: usize, k: usize) -> Option<usize>
     requires { k < 10 }
