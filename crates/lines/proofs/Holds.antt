@@ -138,7 +138,7 @@ number_said k (pos n) w s at o e = value_said k s at (pos n) _ (positive_said s 
     go (suc n) w o e = natural_said s (suc n) at (omega arith) (omega arith) o e
 number_said k (negsuc n) w s at o e =
     let q : at + 1 + length (natural 7 (suc n)) ≡ at + suc (length (natural 7 (suc n))) = omega arith in
-    value_said k s at (negsuc n) _ (negative_said s at n _ o.0 (natural_said s (suc n) (at + 1) (omega arith) (omega arith) o.1 (rw q e) ∙ ap ((λ a b. Some (a, b)) (suc n)) q))
+    value_said k s at (negsuc n) _ (negative_said s at n _ o.0 (natural_said s (suc n) (at + 1) (omega arith) (omega arith) o.1 (rw q e) ∙ ap (λ (i : ℕ). Some (suc n, i)) q))
 
 -- a minus alone, where a number may be missing
 pub missing_said : (k : ℕ) → may_miss k ≡ true → Says k (45 ∷ []) missing

@@ -53,7 +53,7 @@ unfolding field_at
 field_said k x z s at say o e =
     let r = holds_split s at (key_of k) x o in
     let q = after_both at (key_of k) x in
-    rw (holds_key (key_of k) s at r.0) (say s (at + length (key_of k)) r.1 (rw q e) ∙ ap ((λ a b. Some (a, b)) z) q)
+    rw (holds_key (key_of k) s at r.0) (say s (at + length (key_of k)) r.1 (rw q e) ∙ ap (λ (i : ℕ). Some (z, i)) q)
 
 -- n texts say n numbers
 module _ (first : ℕ) (texts : List (List ℕ)) (v : ℕ → ℤ) (s : List ℕ) (at : ℕ) where

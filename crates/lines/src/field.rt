@@ -51,10 +51,7 @@ pub fn each_at(s: &[u8], at: usize, first: usize, count: usize) -> Fields
     while n < count {
         let field = field_at(s, i, first + n);
         let Some((v, next)) = field else {
-            return Fields {
-                next: None,
-                values,
-            };
+            return Fields { next: None, values };
         };
         values[n] = v;
         i = next;

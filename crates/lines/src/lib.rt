@@ -7,7 +7,6 @@ ghost use Rattle.lines.specs.Cut.{empty_in};
 ghost use Rattle.lines.specs.Pieces.{piece_after};
 ghost use Rattle.lines.specs.Line.{fields_at, and_then, line_feed, closes, ends_empty};
 
-
 mod field;
 
 // Of a piece so many bytes decide, as specs/Pieces.antt has it.

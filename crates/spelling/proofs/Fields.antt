@@ -69,7 +69,7 @@ place_spelt : (k : ℕ) (s : List ℕ) (at next : ℕ) (x : List ℕ) (v : Numbe
     → Spelt s at (key_of k ++ x) next
 place_spelt k s at next x (Some (z, i)) p e t =
     let same : i ≡ next = cc in
-    rw t (field_spelt k s at z next (p ∙ ap ((λ a b. Some (a, b)) z) same))
+    rw t (field_spelt k s at z next (p ∙ ap (λ (i : ℕ). Some (z, i)) same))
 place_spelt k s at next x None p e t = absurd (never_at e)
 
 -- ---- n fields, whose texts are those of the values

@@ -1,8 +1,8 @@
 -- `line_end` reads the end of a line whose fields were as printed.
 use Rattle.lines.proofs.line_end.Goals as goal
 
-pub returns-in-At : goal.returns-in-At
-returns-in-At c = rw c.in-At.is c.key_at.ensures
+pub returns-in-Some : goal.returns-in-Some
+returns-in-Some c = rw c.in-Some.is c.key_at.ensures
 
-pub returns-in-Wrong : goal.returns-in-Wrong
-returns-in-Wrong c = rw c.in-Wrong.is
+pub returns-in-None : goal.returns-in-None
+returns-in-None c = rw c.in-None.is

@@ -16,8 +16,8 @@ returns-in_default c =
 pub loop-n-preserved : goal.loop-n-preserved
 loop-n-preserved c = (
   omega arith,
-  rw (to_z-of_z {w = w64} {z = c.in-Got.v} (record { sfits = search rules }))
-      (fields_more _ _ _ _ _ _ c.loop-n.invariant.1 _ _ (omega arith) (sym c.field_at-field.ensures ∙ c.in-Got.is)),
+  rw (to_z-of_z {w = w64} {z = c.in-Some.v} (record { sfits = search rules }))
+      (fields_more _ _ _ _ _ _ c.loop-n.invariant.1 _ _ (omega arith) (sym c.field_at-field.ensures ∙ c.in-Some.is)),
 )
 
 pub returns : goal.returns

@@ -1,8 +1,8 @@
 -- `field::value_after` reads the value where its key was found.
 use Rattle.lines.proofs.field.value_after.Goals as goal
 
-pub returns-in-At : goal.returns-in-At
-returns-in-At c = rw c.in-At.is c.value_at.ensures
+pub returns-in-Some : goal.returns-in-Some
+returns-in-Some c = rw c.in-Some.is c.value_at.ensures
 
-pub returns-in-Wrong : goal.returns-in-Wrong
-returns-in-Wrong c = rw c.in-Wrong.is
+pub returns-in-None : goal.returns-in-None
+returns-in-None c = rw c.in-None.is

@@ -11,10 +11,10 @@ pub returns-then-not-may_miss : goal.returns-then-not-may_miss
 unfolding value_at
 returns-then-not-may_miss c = simp (sym c.may_miss.ensures ∙ c.if-not-may_miss.true) c.number_at-n.ensures
 
-pub returns-in-Got : goal.returns-in-Got
+pub returns-in-Some : goal.returns-in-Some
 unfolding value_at
-returns-in-Got c =
-    simp (sym c.may_miss.ensures ∙ c.if-not-may_miss.false, sym c.number_at-n.ensures ∙ c.in-Got.is) c.in-Got.is
+returns-in-Some c =
+    simp (sym c.may_miss.ensures ∙ c.if-not-may_miss.false, sym c.number_at-n.ensures ∙ c.in-Some.is) c.in-Some.is
 
 pub overflow_add-result : goal.overflow_add-result
 overflow_add-result c =
