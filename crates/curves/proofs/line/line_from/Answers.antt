@@ -38,18 +38,18 @@ returns-in_default c =
 
 pub returns-then-n-gt12 : goal.returns-then-n-gt12
 returns-then-n-gt12 c =
-    line_many _ _ _ _ (head-is c.args.first c.args.at c.args.s.now c.requires _ c.fields_at-head.ensures c.in-At.is)
+    line_many _ _ _ _ (head-is c.args.first c.args.at c.args.s.now c.requires _ c.fields_at-head.ensures c.in-Some.is)
     _ (count-is c.args.first c.args.at c.args.s.now c.requires _ c.fields_at-head.ensures _ (search rules) c.count_of-n.ensures) _ c.if-n-gt12.true c.no_line-then-n-gt12.ensures
 
 -- the line's end
 pub returns-in_default-line_end : goal.returns-in_default-line_end
 returns-in_default-line_end c =
-    line_open _ _ _ _ (head-is c.args.first c.args.at c.args.s.now c.requires _ c.fields_at-head.ensures c.in-At.is)
+    line_open _ _ _ _ (head-is c.args.first c.args.at c.args.s.now c.requires _ c.fields_at-head.ensures c.in-Some.is)
     _ (count-is c.args.first c.args.at c.args.s.now c.requires _ c.fields_at-head.ensures _ (search rules) c.count_of-n.ensures) c.if-n-gt12.false
     _ c.pairs_at-pairs.ensures _ c.line_end.ensures _ c.in_default-line_end.is c.no_line-in_default-line_end.ensures
 
 pub returns : goal.returns
 returns c =
-    line_read _ _ _ _ (head-is c.args.first c.args.at c.args.s.now c.requires _ c.fields_at-head.ensures c.in-At.is)
+    line_read _ _ _ _ (head-is c.args.first c.args.at c.args.s.now c.requires _ c.fields_at-head.ensures c.in-Some.is)
     _ (count-is c.args.first c.args.at c.args.s.now c.requires _ c.fields_at-head.ensures _ (search rules) c.count_of-n.ensures) c.if-n-gt12.false
-    c.pairs_at-pairs.result c.pairs_at-pairs.ensures _ c.line_end.ensures _ c.in-At-line_end.is _ (start_is c.args.first c.args.at c.args.s.now c.requires _ c.fields_at-head.ensures (search rules))
+    c.pairs_at-pairs.result c.pairs_at-pairs.ensures _ c.line_end.ensures _ c.in-Some-line_end.is _ (start_is c.args.first c.args.at c.args.s.now c.requires _ c.fields_at-head.ensures (search rules))

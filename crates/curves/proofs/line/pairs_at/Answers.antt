@@ -32,7 +32,7 @@ loop-j-preserved c =
     let a = c.args in
     let place = l.invariant.1 in (
       omega arith,
-      place_next after_pair _ _ _ _ place ∙ sym r.next ∙ c.in-At.is,
+      place_next after_pair _ _ _ _ place ∙ sym r.next ∙ c.in-Some.is,
       fill_next (end_of_pair a.s.now a.at) (kw (pos 0)) l.j 12 few l.invariant.2
           (ap kw (held_is _ _ (search rules) (r.values 0 (omega arith))) ∙ sym (place_said after_pair _ _ _ _ place end_said _)),
       fill_next (price_of_pair a.s.now a.at) (price (pos 0)) l.j 12 few l.invariant.3
