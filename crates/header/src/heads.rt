@@ -1,10 +1,9 @@
 // The lines of a header: which layout they have, their places, their ranges and what they say.
-ghost use Rattle.std.specs.Prelude.{◌≡◌, ◌<◌, ◌≤◌, eqb, true};
+ghost use Rattle.std.specs.Prelude.{◌≡◌, ◌<◌, ◌≤◌, eqb, true, Some};
 ghost use Rattle.exact.specs.Whole.{eq_z};
 ghost use Rattle.tariff.specs.Reply.{RANGE};
 ghost use Rattle.tariff.specs.Sheet.{LONGEST_DAY};
 ghost use Rattle.text.specs.Text.{key_at};
-ghost use Rattle.text.specs.declared.Next.TheVariants.{At};
 ghost use Rattle.keys.specs.Keys.{KEYS, CAT_LINE, key_of};
 ghost use Rattle.lines.specs.Line.{place_in, filled};
 ghost use Rattle.marks.specs.Word.{word};
@@ -74,7 +73,7 @@ pub fn places_of(s: &[u8], form: Form, judged: bool, hours: usize) -> Places
 // The number behind a key.
 pub fn number_of(s: &[u8], at: usize, key: usize) -> i64
     requires { key < KEYS }
-    ensures { result ≡ number_from key s.now (At at) }
+    ensures { result ≡ number_from key s.now (Some at) }
 {
     let fields = lines::fields_at(s, at, key, 1);
     let values = fields.values;
@@ -94,7 +93,7 @@ pub fn row_start(s: &[u8], at: usize, key: usize) -> usize
 // Whether what a line says is in its range.
 pub fn in_range(s: &[u8], at: usize, line: Line, hours: usize) -> bool
     requires { Stands hours line s.now at }
-    ensures { result ≡ line_in_range hours line s.now (At at) }
+    ensures { result ≡ line_in_range hours line s.now (Some at) }
 {
     match line {
         Line::Number(key, least, most) => units::lies_in(number_of(s, at, key), least, most),
@@ -135,7 +134,7 @@ pub fn is_number(x: i64, n: i64) -> bool
 // The hours whose digit in a row is the one that is asked for, as a word.
 pub fn row_word(s: &[u8], at: usize, key: usize, hours: usize, digit: u64) -> u32
     requires { RowStands hours key s.now at × (hours < 32) }
-    ensures { result ≡ word hours (λ h. eqb (digit_from key s.now (At at) h) digit) }
+    ensures { result ≡ word hours (λ h. eqb (digit_from key s.now (Some at) h) digit) }
 {
     rows::word_at(s, row_start(s, at, key), hours, digit)
 }
@@ -143,7 +142,7 @@ pub fn row_word(s: &[u8], at: usize, key: usize, hours: usize, digit: u64) -> u3
 // The row of `cat`.
 pub fn row_cat(s: &[u8], at: usize, hours: usize) -> [u8; tariff::LONGEST_DAY]
     requires { RowStands hours CAT_LINE s.now at × (hours ≤ LONGEST_DAY) }
-    ensures { result ≡ filled hours LONGEST_DAY (digit_from CAT_LINE s.now (At at)) 0 }
+    ensures { result ≡ filled hours LONGEST_DAY (digit_from CAT_LINE s.now (Some at)) 0 }
 {
     rows::cat_at(s, row_start(s, at, keys::CAT_LINE), hours)
 }

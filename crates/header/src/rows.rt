@@ -1,13 +1,11 @@
 // Rows of marks, over the count of a day's hours: a day on which the clock changes has another count.
-ghost use Rattle.std.specs.Prelude.{◌≡◌, true, ◌+◌, ◌<◌, ◌≤◌, eqb, length};
+ghost use Rattle.std.specs.Prelude.{◌≡◌, true, ◌+◌, ◌<◌, ◌≤◌, eqb, length, Some};
 ghost use Rattle.tariff.specs.Eligible.{marked};
 ghost use Rattle.text.specs.Number.{digit_at};
 ghost use Rattle.lines.specs.Line.{and_then, filled};
 ghost use Rattle.marks.specs.Word.{word};
 ghost use Rattle.tariff.specs.Sheet.{LONGEST_DAY, all_to};
-ghost use Rattle.text.specs.declared.Next.TheVariants.{At};
 ghost use Rattle.header.specs.Layout.{digits_at, behind_run};
-
 
 // The place after a digit for each hour.
 pub fn digits_at(s: &[u8], at: usize, hours: usize) -> Option<usize>
@@ -37,7 +35,7 @@ pub fn digits_after(s: &[u8], next: Option<usize>, hours: usize) -> Option<usize
 
 // The place behind the digits from a place on, however many there are.
 pub fn run_at(s: &[u8], at: usize) -> usize
-    ensures { At result ≡ behind_run s.now at }
+    ensures { Some result ≡ behind_run s.now at }
 {
     let mut i = at;
     while i < s.len() {

@@ -53,12 +53,12 @@ module _ (c : After-head_of-head) where
 pub overflow_add-line : goal.overflow_add-line
 overflow_add-line c = let few = c.unit_line-unit.ensures.1 in record { fits = omega arith }
 
-pub returns-in-Fault : goal.returns-in-Fault
-returns-in-Fault c =
-    let h = (goal.at.returns-in-Fault c).After-head_of-head in
+pub returns-in-Err : goal.returns-in-Err
+returns-in-Err c =
+    let h = (goal.at.returns-in-Err c).After-head_of-head in
     let s = text h in
-    let check : Check = c.in-Fault.field-0 in
-    let is : fault (number_of check) (place_of check) ≡ header_fault s = ap shown (sym c.in-Fault.is) ∙ (read h).fault in
+    let check : Check = c.in-Err.field-0 in
+    let is : fault (number_of check) (place_of check) ≡ header_fault s = ap shown (sym c.in-Err.is) ∙ (read h).fault in
     record {
       found = (read h).fault;
       marks = c.no_marks.ensures ∙ ap (λ (v : Verdict). marks_under v s) is;

@@ -21,12 +21,12 @@ use Rattle.header.proofs.read_icl_header.Goals.{After-head_of-head, In_default}
 few : (c : After-head_of-head) → c.head_of-head.result.hours ≤ 25
 few c = omega (arith, c.head_of-head.ensures.hours, hours_few (icl_count_of c.args.s.now))
 
-pub returns-in-Fault : goal.returns-in-Fault
-returns-in-Fault c =
+pub returns-in-Err : goal.returns-in-Err
+returns-in-Err c =
     let read = c.head_of-head.ensures in
     let s = c.args.s.now in
-    let check : Check = c.in-Fault.field-0 in
-    let is : fault (number_of check) (place_of check) ≡ icl_header_fault s = ap shown (sym c.in-Fault.is) ∙ read.fault in
+    let check : Check = c.in-Err.field-0 in
+    let is : fault (number_of check) (place_of check) ≡ icl_header_fault s = ap shown (sym c.in-Err.is) ∙ read.fault in
     record {
       found = read.fault;
       unmarked = c.every_hour.ensures ∙ (λ i. word (read.hours i) (icl_unmarked_under (is i) s));

@@ -17,12 +17,12 @@ line_at-requires c =
     let form = c.args.form in
     ap is_keyed c.line_of.ensures ∙ line_keyed (layout_by form false) 0 (lines_keyed form false)
 
-pub returns-in-At : goal.returns-in-At
-returns-in-At c =
+pub returns-in-Some : goal.returns-in-Some
+returns-in-Some c =
     handed _ c.number_of.type_inv
     ∙ c.number_of.ensures
-    ∙ count_second _ _ c.in_default.not-One c.line_of.ensures (sym c.in-At.is ∙ c.line_at.ensures)
+    ∙ count_second _ _ c.in_default.not-One c.line_of.ensures (sym c.in-Some.is ∙ c.line_at.ensures)
 
-pub returns-in-Wrong : goal.returns-in-Wrong
-returns-in-Wrong c =
-    count_second _ _ c.in_default.not-One c.line_of.ensures (sym c.in-Wrong.is ∙ c.line_at.ensures)
+pub returns-in-None : goal.returns-in-None
+returns-in-None c =
+    count_second _ _ c.in_default.not-One c.line_of.ensures (sym c.in-None.is ∙ c.line_at.ensures)

@@ -40,7 +40,7 @@ loop-j-preserved c =
     let form = c.args.form in
     let judged = c.args.judged in
     places_next (layout_by form judged) _ _ room (lines_few form judged) _ _ _ c.loop-j.invariant c.line_of.ensures
-    (omega (arith, c.loop-j-test.true, c.lines_of-lines.ensures)) _ (sym c.line_at.ensures ∙ c.in-At.is)
+    (omega (arith, c.loop-j-test.true, c.lines_of-lines.ensures)) _ (sym c.line_at.ensures ∙ c.in-Some.is)
 
 pub returns : goal.returns
 returns c =
