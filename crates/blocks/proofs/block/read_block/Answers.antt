@@ -31,31 +31,31 @@ returns-in_default c = frame_line1 generator hour_read_of _ _ _ (line1 _ _ _ c.f
 pub returns-in_default-da_next : goal.returns-in_default-da_next
 unfolding block_at
 returns-in_default-da_next c =
-    frame_line2 generator hour_read_of _ _ _ (line1 _ _ _ c.fields_at-first.ensures _ c.line_end.ensures ∙ c.in-At.is)
+    frame_line2 generator hour_read_of _ _ _ (line1 _ _ _ c.fields_at-first.ensures _ c.line_end.ensures ∙ c.in-Some.is)
     _ (sym (curve_next DA _ _ _ c.curve_at-da.ensures) ∙ c.in_default-da_next.is) c.broken_block-in_default-da_next.ensures
 
 pub returns-in_default-rt_next : goal.returns-in_default-rt_next
 unfolding block_at
 returns-in_default-rt_next c =
-    frame_line3 generator hour_read_of _ _ _ (line1 _ _ _ c.fields_at-first.ensures _ c.line_end.ensures ∙ c.in-At.is)
-    _ (sym (curve_next DA _ _ _ c.curve_at-da.ensures) ∙ c.in-At-da_next.is)
+    frame_line3 generator hour_read_of _ _ _ (line1 _ _ _ c.fields_at-first.ensures _ c.line_end.ensures ∙ c.in-Some.is)
+    _ (sym (curve_next DA _ _ _ c.curve_at-da.ensures) ∙ c.in-Some-da_next.is)
     _ (sym (curve_next RT _ _ _ c.curve_at-rt.ensures) ∙ c.in_default-rt_next.is) c.broken_block-in_default-rt_next.ensures
 
 pub returns-then-broken-ne0 : goal.returns-then-broken-ne0
 unfolding block_at
 returns-then-broken-ne0 c =
-    frame_series generator hour_read_of _ _ _ (line1 _ _ _ c.fields_at-first.ensures _ c.line_end.ensures ∙ c.in-At.is)
-    _ (sym (curve_next DA _ _ _ c.curve_at-da.ensures) ∙ c.in-At-da_next.is)
-    _ (sym (curve_next RT _ _ _ c.curve_at-rt.ensures) ∙ c.in-At-rt_next.is)
+    frame_series generator hour_read_of _ _ _ (line1 _ _ _ c.fields_at-first.ensures _ c.line_end.ensures ∙ c.in-Some.is)
+    _ (sym (curve_next DA _ _ _ c.curve_at-da.ensures) ∙ c.in-Some-da_next.is)
+    _ (sym (curve_next RT _ _ _ c.curve_at-rt.ensures) ∙ c.in-Some-rt_next.is)
     _ _ _ c.series_at-series.ensures _ c.if-broken-ne0.true c.broken_block-then-broken-ne0.ensures
 
 pub returns : goal.returns
 unfolding block_at
 returns c =
     let v = (fields1 _ _ _ c.fields_at-first.ensures).values in
-    frame_read generator hour_read_of _ _ _ (line1 _ _ _ c.fields_at-first.ensures _ c.line_end.ensures ∙ c.in-At.is)
-    _ (sym (curve_next DA _ _ _ c.curve_at-da.ensures) ∙ c.in-At-da_next.is)
-    _ (sym (curve_next RT _ _ _ c.curve_at-rt.ensures) ∙ c.in-At-rt_next.is)
+    frame_read generator hour_read_of _ _ _ (line1 _ _ _ c.fields_at-first.ensures _ c.line_end.ensures ∙ c.in-Some.is)
+    _ (sym (curve_next DA _ _ _ c.curve_at-da.ensures) ∙ c.in-Some-da_next.is)
+    _ (sym (curve_next RT _ _ _ c.curve_at-rt.ensures) ∙ c.in-Some-rt_next.is)
     _ _ _ c.series_at-series.ensures _ c.if-broken-ne0.false
     (hour_made (value_in AHEAD c.args.s.now c.args.at) _ _ _ _ (held_is _ _ (search rules) (v 0 (omega arith))) (c.ahead_of-ahead.ensures ∙ ahead_same _ _ v)
-    (curve_said_lem DA _ _ _ c.curve_at-da.ensures _ c.in-At-da_next.is) (curve_said_lem RT _ _ _ c.curve_at-rt.ensures _ c.in-At-rt_next.is))
+    (curve_said_lem DA _ _ _ c.curve_at-da.ensures _ c.in-Some-da_next.is) (curve_said_lem RT _ _ _ c.curve_at-rt.ensures _ c.in-Some-rt_next.is))
