@@ -30,32 +30,32 @@ returns-in_default c = frame_line1 controllable_line icl_read_of _ _ _ (line1 _ 
 pub returns-in_default-da_next : goal.returns-in_default-da_next
 unfolding icl_block_of icl_block_at
 returns-in_default-da_next c =
-    frame_line2 controllable_line icl_read_of _ _ _ (line1 _ _ _ c.fields_at-first.ensures _ c.line_end.ensures ∙ c.in-At.is)
+    frame_line2 controllable_line icl_read_of _ _ _ (line1 _ _ _ c.fields_at-first.ensures _ c.line_end.ensures ∙ c.in-Some.is)
     _ (sym (curve_next DA _ _ _ c.curve_at-da.ensures) ∙ c.in_default-da_next.is) c.broken_icl-in_default-da_next.ensures
 
 pub returns-in_default-rt_next : goal.returns-in_default-rt_next
 unfolding icl_block_of icl_block_at
 returns-in_default-rt_next c =
-    frame_line3 controllable_line icl_read_of _ _ _ (line1 _ _ _ c.fields_at-first.ensures _ c.line_end.ensures ∙ c.in-At.is)
-    _ (sym (curve_next DA _ _ _ c.curve_at-da.ensures) ∙ c.in-At-da_next.is)
+    frame_line3 controllable_line icl_read_of _ _ _ (line1 _ _ _ c.fields_at-first.ensures _ c.line_end.ensures ∙ c.in-Some.is)
+    _ (sym (curve_next DA _ _ _ c.curve_at-da.ensures) ∙ c.in-Some-da_next.is)
     _ (sym (curve_next RT _ _ _ c.curve_at-rt.ensures) ∙ c.in_default-rt_next.is) c.broken_icl-in_default-rt_next.ensures
 
 pub returns-then-broken-ne0 : goal.returns-then-broken-ne0
 unfolding icl_block_of icl_block_at
 returns-then-broken-ne0 c =
-    frame_series controllable_line icl_read_of _ _ _ (line1 _ _ _ c.fields_at-first.ensures _ c.line_end.ensures ∙ c.in-At.is)
-    _ (sym (curve_next DA _ _ _ c.curve_at-da.ensures) ∙ c.in-At-da_next.is)
-    _ (sym (curve_next RT _ _ _ c.curve_at-rt.ensures) ∙ c.in-At-rt_next.is)
+    frame_series controllable_line icl_read_of _ _ _ (line1 _ _ _ c.fields_at-first.ensures _ c.line_end.ensures ∙ c.in-Some.is)
+    _ (sym (curve_next DA _ _ _ c.curve_at-da.ensures) ∙ c.in-Some-da_next.is)
+    _ (sym (curve_next RT _ _ _ c.curve_at-rt.ensures) ∙ c.in-Some-rt_next.is)
     _ _ _ c.icl_series_at-series.ensures _ c.if-broken-ne0.true c.broken_icl-then-broken-ne0.ensures
 
 pub returns : goal.returns
 unfolding icl_block_of icl_block_at
 returns c =
     let v = (fields1 _ _ _ c.fields_at-first.ensures).values in
-    frame_read controllable_line icl_read_of _ _ _ (line1 _ _ _ c.fields_at-first.ensures _ c.line_end.ensures ∙ c.in-At.is)
-    _ (sym (curve_next DA _ _ _ c.curve_at-da.ensures) ∙ c.in-At-da_next.is)
-    _ (sym (curve_next RT _ _ _ c.curve_at-rt.ensures) ∙ c.in-At-rt_next.is)
+    frame_read controllable_line icl_read_of _ _ _ (line1 _ _ _ c.fields_at-first.ensures _ c.line_end.ensures ∙ c.in-Some.is)
+    _ (sym (curve_next DA _ _ _ c.curve_at-da.ensures) ∙ c.in-Some-da_next.is)
+    _ (sym (curve_next RT _ _ _ c.curve_at-rt.ensures) ∙ c.in-Some-rt_next.is)
     _ _ _ c.icl_series_at-series.ensures _ c.if-broken-ne0.false
     (icl_made (value_in ICL_HOUR c.args.block.now 0) _ _ _ _ _
     (held_is _ _ (search rules) (v 0 (omega arith))) (held_is _ _ (search rules) (v 1 (omega arith))) (held_is _ _ (search rules) (v 2 (omega arith)))
-    (curve_said_lem DA _ _ _ c.curve_at-da.ensures _ c.in-At-da_next.is) (curve_said_lem RT _ _ _ c.curve_at-rt.ensures _ c.in-At-rt_next.is))
+    (curve_said_lem DA _ _ _ c.curve_at-da.ensures _ c.in-Some-da_next.is) (curve_said_lem RT _ _ _ c.curve_at-rt.ensures _ c.in-Some-rt_next.is))

@@ -37,7 +37,7 @@ returns-in_default c =
 pub loop-iv-preserved : goal.loop-iv-preserved
 loop-iv-preserved c =
     series_next icl_interval_line 4 30 icl_interval_said blank_icl _ _ _ _ _ c.loop-iv.invariant (sym c.is_closed.ensures ∙ c.loop-iv-test.true) c.if-n-ge30.false _ _
-    (line _ _ _ c.fields_at-fields.ensures _ c.line_end.ensures ∙ c.in-At.is)
+    (line _ _ _ c.fields_at-fields.ensures _ c.line_end.ensures ∙ c.in-Some.is)
     (c.icl_interval_of.ensures ∙ icl_interval_same _ _ (fields _ _ _ c.fields_at-fields.ensures).values)
 
 pub returns : goal.returns
