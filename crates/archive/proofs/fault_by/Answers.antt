@@ -25,11 +25,11 @@ returns-then-not-goes_way c =
 this-way : (c : Else-not-goes_way) → goes c.args.way c.args.two ≡ true
 this-way c = sym c.goes_way.ensures ∙ c.if-not-goes_way.false
 
-pub returns-in-Fault : goal.returns-in-Fault
-returns-in-Fault c =
+pub returns-in-Err : goal.returns-in-Err
+returns-in-Err c =
     let a = c.args in
-    let check : Check = c.in-Fault.field-0 in
-    by_range a.way (shown a.header) a.two a.hours (no_form (goal.at.returns-in-Fault c).Else-is_form) (this-way (goal.at.returns-in-Fault c).Else-not-goes_way) (number_of check) (place_of check) (ap shown c.in-Fault.is)
+    let check : Check = c.in-Err.field-0 in
+    by_range a.way (shown a.header) a.two a.hours (no_form (goal.at.returns-in-Err c).Else-is_form) (this-way (goal.at.returns-in-Err c).Else-not-goes_way) (number_of check) (place_of check) (ap shown c.in-Err.is)
 
 pub returns-then-not-fits_form : goal.returns-then-not-fits_form
 returns-then-not-fits_form c =

@@ -6,5 +6,5 @@ use Rattle.tariff.specs.Reply.{shown, Found}
 use Rattle.archive.specs.Told.{is_form}
 use Rattle.archive.proofs.is_form.Goals as goal
 
-pub returns-in-Fault : goal.returns-in-Fault
-returns-in-Fault c = ap (λ (n : ℕ). eqb n 1) c.number_of.ensures ∙ ap (λ (f : Found). is_form (shown f)) (sym c.in-Fault.is)
+pub returns-in-Err : goal.returns-in-Err
+returns-in-Err c = ap (λ (n : ℕ). eqb n 1) c.number_of.ensures ∙ ap (λ (f : Found). is_form (shown f)) (sym c.in-Err.is)

@@ -6,11 +6,11 @@ use Rattle.page.proofs.Pages.{put_none, put_as, put_counts}
 use Rattle.archive.specs.Move.{move_fault, moved_under}
 use Rattle.archive.proofs.move_sheet.Goals as goal
 
-pub returns-in-Fault : goal.returns-in-Fault
-returns-in-Fault c =
+pub returns-in-Err : goal.returns-in-Err
+returns-in-Err c =
     let a = c.args in
-    let check : Check = c.in-Fault.field-0 in
-    let is : fault (number_of check) (place_of check) ≡ move_fault a.way a.sheet.now = ap shown (sym c.in-Fault.is) ∙ c.fault_of-found.ensures in
+    let check : Check = c.in-Err.field-0 in
+    let is : fault (number_of check) (place_of check) ≡ move_fault a.way a.sheet.now = ap shown (sym c.in-Err.is) ∙ c.fault_of-found.ensures in
     let none = put_none a.page.now 0 in
     record {
       found = c.fault_of-found.ensures;
