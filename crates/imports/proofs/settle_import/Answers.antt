@@ -5,9 +5,9 @@ use Rattle.exact.proofs.Held.{held_is}
 use Rattle.imports.proofs.Heads.{said_name, said_cts, said_hours, said_next, head_inside, hours_few, head_refuses, head_passes}
 use Rattle.imports.proofs.settle_import.Goals as goal
 
-pub returns-in-Fault : goal.returns-in-Fault
-returns-in-Fault c =
-    head_refuses c.args.s.now _ _ (found_told c.read_head-head.ensures.found c.in-Fault.is)
+pub returns-in-Err : goal.returns-in-Err
+returns-in-Err c =
+    head_refuses c.args.s.now _ _ (found_told c.read_head-head.ensures.found c.in-Err.is)
 
 -- where the first two lines have no fault
 pub settle_blocks-requires : goal.settle_blocks-requires

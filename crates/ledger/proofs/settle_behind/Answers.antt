@@ -7,11 +7,11 @@ use Rattle.ledger.specs.declared.Day.{Day}
 use Rattle.ledger.proofs.Days.{all_refused, total_withheld, replies_are, total_is}
 use Rattle.ledger.proofs.settle_behind.Goals as goal
 
-pub returns-in-Fault : goal.returns-in-Fault
-returns-in-Fault c f kind front =
-    let check : Check = c.in-Fault.check in
+pub returns-in-Err : goal.returns-in-Err
+returns-in-Err c f kind front =
+    let check : Check = c.in-Err.check in
     let same = c.refused_day.ensures in
-    let e : f.fault ≡ fault (number_of check) (place_of check) = sym front.fault ∙ ap shown c.in-Fault.is in
+    let e : f.fault ≡ fault (number_of check) (place_of check) = sym front.fault ∙ ap shown c.in-Err.is in
     record {
       found = ap (λ (d : Day). shown d.found) same ∙ sym e;
       header = ap (λ (d : Day). d.header) same ∙ front.header;

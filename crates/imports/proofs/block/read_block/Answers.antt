@@ -27,13 +27,13 @@ returns-in_default c = block_line1 _ _ _ (line1 _ _ _ c.fields_at-first.ensures 
 
 pub returns-then-broken-ne0 : goal.returns-then-broken-ne0
 returns-then-broken-ne0 c =
-    block_series _ _ _ (line1 _ _ _ c.fields_at-first.ensures _ c.line_end.ensures ∙ c.in-At.is)
+    block_series _ _ _ (line1 _ _ _ c.fields_at-first.ensures _ c.line_end.ensures ∙ c.in-Some.is)
     _ c.series_at-series.ensures _ c.if-broken-ne0.true c.broken_block-then-broken-ne0.ensures
 
 pub returns : goal.returns
 returns c =
     let v = (fields1 _ _ _ c.fields_at-first.ensures).values in
-    block_read _ _ _ (line1 _ _ _ c.fields_at-first.ensures _ c.line_end.ensures ∙ c.in-At.is)
+    block_read _ _ _ (line1 _ _ _ c.fields_at-first.ensures _ c.line_end.ensures ∙ c.in-Some.is)
     _ c.series_at-series.ensures _ _ _ c.if-broken-ne0.false
     (held_is _ _ (search rules) (v 0 (omega arith)))
     (held_is _ _ (search rules) (v 1 (omega arith)))

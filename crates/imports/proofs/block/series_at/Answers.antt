@@ -37,7 +37,7 @@ returns-in_default c =
 pub loop-iv-preserved : goal.loop-iv-preserved
 loop-iv-preserved c =
     series_next curtailed_line 2 30 curtailed_said blank_curtailed _ _ _ _ _ c.loop-iv.invariant (sym c.is_closed.ensures ∙ c.loop-iv-test.true) c.if-n-ge30.false _ _
-    (line _ _ _ c.fields_at-fields.ensures _ c.line_end.ensures ∙ c.in-At.is)
+    (line _ _ _ c.fields_at-fields.ensures _ c.line_end.ensures ∙ c.in-Some.is)
     (c.curtailed_of.ensures ∙ curtailed_same _ _ (fields _ _ _ c.fields_at-fields.ensures).values)
 
 pub returns : goal.returns

@@ -37,7 +37,7 @@ plus-sum-requires c =
     let few = c.requires.1 in
     let fits : 108000000000000000 * L.k ≤ 4000000000000000000 = omega arith in (
       within_more fits L.invariant.1.within,
-      here_within _ _ _ _ _ _ _ L.invariant.1 _ c.settle_block-answer.ensures _ c.in-Part.is,
+      here_within _ _ _ _ _ _ _ L.invariant.1 _ c.settle_block-answer.ensures _ c.in-Ok.is,
     )
 
 pub loop-k-preserved : goal.loop-k-preserved
@@ -45,7 +45,7 @@ loop-k-preserved c =
     let L = c.loop-k in
     let next = piece_behind _ _ _ c.piece_after-i.ensures in (
       omega arith,
-      rw c.plus-sum.ensures (one_added _ _ _ _ _ _ _ L.invariant.1 _ c.settle_block-answer.ensures _ c.in-Part.is _ next.0 next.1),
+      rw c.plus-sum.ensures (one_added _ _ _ _ _ _ _ L.invariant.1 _ c.settle_block-answer.ensures _ c.in-Ok.is _ next.0 next.1),
     )
 
 -- after the last block

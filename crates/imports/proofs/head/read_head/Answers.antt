@@ -28,20 +28,20 @@ returns-in_default c = head_line1 _ _ (sym c.read_line-line.ensures.next ∙ c.i
 
 pub returns-in_default-line_end : goal.returns-in_default-line_end
 returns-in_default-line_end c =
-    head_line2 _ _ (sym c.read_line-line.ensures.next ∙ c.in-At.is) _ (sym c.line_end.ensures ∙ c.in_default-line_end.is)
+    head_line2 _ _ (sym c.read_line-line.ensures.next ∙ c.in-Some.is) _ (sym c.line_end.ensures ∙ c.in_default-line_end.is)
     c.refused-in_default-line_end.ensures
 
 pub returns-then-not-in_range : goal.returns-then-not-in_range
 returns-then-not-in_range c =
     let in_range = c.in_range.ensures ∙ ranges _ _ c.read_line-line.ensures (search rules) (search rules) (search rules) in
-    head_range _ _ (sym c.read_line-line.ensures.next ∙ c.in-At.is) _ (sym c.line_end.ensures ∙ c.in-At-line_end.is) _
+    head_range _ _ (sym c.read_line-line.ensures.next ∙ c.in-Some.is) _ (sym c.line_end.ensures ∙ c.in-Some-line_end.is) _
     (sym in_range ∙ c.if-not-in_range.true) c.refused-then-not-in_range.ensures
 
 pub returns : goal.returns
 returns c =
     let e = c.read_line-line.ensures in
     let in_range = c.in_range.ensures ∙ ranges _ _ e (search rules) (search rules) (search rules) in
-    head_said _ _ (sym e.next ∙ c.in-At.is) _ (sym c.line_end.ensures ∙ c.in-At-line_end.is) _ _ _ _ (sym in_range ∙ c.if-not-in_range.false)
+    head_said _ _ (sym e.next ∙ c.in-Some.is) _ (sym c.line_end.ensures ∙ c.in-Some-line_end.is) _ _ _ _ (sym in_range ∙ c.if-not-in_range.false)
     (held_is _ _ (search rules) e.name)
     (held_is _ _ (search rules) e.cts)
     (held_is _ _ (search rules) e.count)

@@ -32,7 +32,7 @@ returns-in_default c =
 pub returns : goal.returns
 returns c =
     let v = (three (goal.at.returns c).After-line_end).values in
-    line_long _ _ _ _ _ (line3 (goal.at.returns c).After-line_end ∙ c.in-At.is)
+    line_long _ _ _ _ _ (line3 (goal.at.returns c).After-line_end ∙ c.in-Some.is)
     (held_is _ _ (search rules) (v 0 (omega arith)))
     (held_is _ _ (search rules) (v 1 (omega arith)))
     (held_is _ _ (search rules) (v 2 (omega arith)))

@@ -33,19 +33,19 @@ module _ (b o a : List ℕ) (before own after : Head) (rb : NeighbourRead b befo
       → unit_fault a o ≡ unless (not other) RANGE after.line
   after-unit f g other says = unit_judged a o after own ra ro (third-clear g) (second-clear f) other says
 
-pub returns-in-Fault : goal.returns-in-Fault
-returns-in-Fault c b o a rb ro ra =
-    let found = ap shown c.in-Fault.is in
+pub returns-in-Err : goal.returns-in-Err
+returns-in-Err c b o a rb ro ra =
+    let found = ap shown c.in-Err.is in
     judged_as b o a _ (before_refuses b o a (sym rb.fault ∙ found)) found refl
 
-pub returns-in-Fault-found : goal.returns-in-Fault-found
-returns-in-Fault-found c b o a rb ro ra =
-    let found = ap shown c.in-Fault-found.is in
+pub returns-in-Err-found : goal.returns-in-Err-found
+returns-in-Err-found c b o a rb ro ra =
+    let found = ap shown c.in-Err-found.is in
     judged_as b o a _ (own_refuses b o a (first_clear b o a _ _ _ rb ro ra c.in_default.is) (sym ro.fault ∙ found)) found refl
 
-pub returns-in-Fault-found-2 : goal.returns-in-Fault-found-2
-returns-in-Fault-found-2 c b o a rb ro ra =
-    let found = ap shown c.in-Fault-found-2.is in
+pub returns-in-Err-found-2 : goal.returns-in-Err-found-2
+returns-in-Err-found-2 c b o a rb ro ra =
+    let found = ap shown c.in-Err-found-2.is in
     judged_as b o a _
     (after_refuses b o a (first_clear b o a _ _ _ rb ro ra c.in_default.is) (second-clear b o a _ _ _ rb ro ra c.in_default-found.is) (sym ra.fault ∙ found))
     found refl

@@ -28,11 +28,11 @@ overflow_add-result c =
     let a = c.args in
     let small : mag c.in-Paid.field-0.0 < 2 ^ 63 = omega arith in
     fits tt
-    (is_add (leaf tt (sofar_most a.total c.in-Of.sum c.requires.0 c.in-Of.is))
+    (is_add (leaf tt (sofar_most a.total c.in-Some.sum c.requires.0 c.in-Some.is))
     (leaf tt (cents_most a.answer c.in-Paid.field-0 c.in-Paid.cents c.requires.1 c.in-Paid.is small)))
 
-pub returns-in-Withheld : goal.returns-in-Withheld
-returns-in-Withheld c = let a = c.args in add_withheld a.total a.answer c.in-Withheld.is
+pub returns-in-None : goal.returns-in-None
+returns-in-None c = let a = c.args in add_withheld a.total a.answer c.in-None.is
 
 pub returns-in-Refused : goal.returns-in-Refused
 returns-in-Refused c =
@@ -44,5 +44,5 @@ returns-in-Paid c =
     let a = c.args in
     let small : mag c.in-Paid.field-0.0 < 2 ^ 63 = omega arith in
     let cents = cents_most a.answer c.in-Paid.field-0 c.in-Paid.cents c.requires.1 c.in-Paid.is small in
-    add_paid a.total a.answer c.in-Of.sum c.in-Paid.cents c.in-Paid.field-0 _ c.in-Of.is c.in-Paid.is cents
-    (gives tt (is_add (leaf tt (sofar_most a.total c.in-Of.sum c.requires.0 c.in-Of.is)) (leaf tt cents)))
+    add_paid a.total a.answer c.in-Some.sum c.in-Paid.cents c.in-Paid.field-0 _ c.in-Some.is c.in-Paid.is cents
+    (gives tt (is_add (leaf tt (sofar_most a.total c.in-Some.sum c.requires.0 c.in-Some.is)) (leaf tt cents)))
