@@ -14,8 +14,9 @@ use Rattle.exact.specs.Whole.{Within}
 use Rattle.exact.proofs.Apart.{impossible}
 use Rattle.exact.proofs.Parts.{by_test}
 use Rattle.text.specs.Text.{byte_at}
-use Rattle.text.specs.Number.{digit_of, digit_at, more_digits, natural_at, plain, negative, number_at, Digits}
+use Rattle.text.specs.Number.{digit_of, digit_at, more_digits, natural_at, plain, negative, number_at, Digits, Number}
 use Rattle.text.specs.Decimal.{natural, number}
+use Rattle.spelling.proofs.Pairs.{same_said, same_behind}
 use Rattle.spelling.specs.Spelt.{Spelt}
 use Rattle.spelling.proofs.Places.{both_spelt, byte_spelt}
 
@@ -62,10 +63,10 @@ module _ (s : List ℕ) where
     text : x ++ drop at s ≡ natural 7 w ++ drop next s
     small : w < 10000000
 
-  digits_stop : (used v at w next : ℕ) (x : List ℕ) → used ≤ 7 → v < 10 ^ used → Printed used v x → Some (v, at) ≡ Some (w, next) → DigitsSpelt x at w next
+  digits_stop : (used v at w next : ℕ) (x : List ℕ) → used ≤ 7 → v < 10 ^ used → Printed used v x → ◌≡◌ {A = Digits} (Some (v, at)) (Some (w, next)) → DigitsSpelt x at w next
   digits_stop used v at w next x u b o e =
-      let p : v ≡ w = cc in
-      let q : at ≡ next = cc in
+      let p : v ≡ w = same_said e in
+      let q : at ≡ next = same_behind e in
       let most : 10 ^ used ≤ 10 ^ 7 = pow-le-pow_right (lit< tt) u in
       record {
         text = ap (λ (y : List ℕ). y ++ drop at s) (sym (o 7 u)) ∙ ap₂ (λ (w next : ℕ). natural 7 w ++ drop next s) p q;
@@ -115,8 +116,8 @@ module _ (s : List ℕ) where
   module _ (at : ℕ) (z : ℤ) (next : ℕ) where
     plain_spelt : (d : Digits) → natural_at s at ≡ d → plain d ≡ Some (z, next) → NumberSpelt at z next
     plain_spelt (Some (v, k)) e f =
-        let p : pos v ≡ z = cc in
-        let q : k ≡ next = cc in
+        let p : pos v ≡ z = same_said f in
+        let q : k ≡ next = same_behind f in
         let r = natural_spelt at v k e in
         let is : NumberSpelt at (pos v) k = record { text = record { bytes = r.text }; small = let u = r.small in omega arith } in
         rw (← p, ← q) is
@@ -131,11 +132,11 @@ module _ (s : List ℕ) where
 
     negative_spelt : byte_at s at ≡ 45 → (d : Digits) → natural_at s (at + 1) ≡ d → negative d ≡ Some (z, next) → NumberSpelt at z next
     negative_spelt m (Some (v, k)) e =
-        by_test (eqb v 0) (λ t. (if t then None else Some (neg_ℤ (pos v), k)) ≡ Some (z, next) → NumberSpelt at z next)
+        by_test (eqb v 0) (λ t. ◌≡◌ {A = Number} (if◌then◌else◌ {A = Number} t None (Some (neg_ℤ (pos v), k))) (Some (z, next)) → NumberSpelt at z next)
         (λ t f. impossible cc)
         (λ t f.
-        let p : neg_ℤ (pos v) ≡ z = cc in
-        let q : k ≡ next = cc in
+        let p : neg_ℤ (pos v) ≡ z = same_said f in
+        let q : k ≡ next = same_behind f in
         let is = minus_spelt m v k e (eqb-false v 0 t) in
         rw (← p, ← q) is)
     negative_spelt m None e = λ f. impossible cc

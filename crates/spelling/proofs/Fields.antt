@@ -21,12 +21,13 @@ use Rattle.lines.specs.Print.{fields, line}
 use Rattle.lines.proofs.Along.{never_at}
 use Rattle.records.specs.Records.{maybe_of}
 use Rattle.sheet.specs.Print.{maybe_text}
+use Rattle.spelling.proofs.Pairs.{same_said, same_behind}
 use Rattle.spelling.specs.Spelt.{Spelt}
 use Rattle.spelling.specs.Value.{value_text, value_texts}
 use Rattle.spelling.proofs.Places.{none_spelt, both_spelt, byte_spelt, key_spelt, fed_spelt}
 use Rattle.spelling.proofs.Digits.{number_spelt}
 
-never_got : {z : ℤ} {next : ℕ} → None ≡ Some (z, next) → ⊥
+never_got : {z : ℤ} {next : ℕ} → ◌≡◌ {A = Number} None (Some (z, next)) → ⊥
 never_got e = impossible cc
 
 -- ---- a value
@@ -37,10 +38,10 @@ module _ (s : List ℕ) (at : ℕ) (z : ℤ) (next : ℕ) where
   maybe_spelt : (n : Number) → number_at s at ≡ n → or_missing n s at ≡ Some (z, next) → Spelt s at (maybe_text (maybe_of z)) next
   maybe_spelt (Some (v, k)) e = λ f. let r = number_spelt s at z next (e ∙ f) in rw (maybe_number z r.small) r.text
   maybe_spelt None e =
-      by_test (eqb (byte_at s at) 45) (λ t. (if t then Some (missing, at + 1) else None) ≡ Some (z, next) → Spelt s at (maybe_text (maybe_of z)) next)
+      by_test (eqb (byte_at s at) 45) (λ t. ◌≡◌ {A = Number} (if◌then◌else◌ {A = Number} t (Some (missing, at + 1)) None) (Some (z, next)) → Spelt s at (maybe_text (maybe_of z)) next)
       (λ t f.
-      let p : missing ≡ z = cc in
-      let q : at + 1 ≡ next = cc in
+      let p : missing ≡ z = same_said f in
+      let q : at + 1 ≡ next = same_behind f in
       rw (← p, ← q) (byte_spelt s at 45 (eqb-true (byte_at s at) 45 t) (lit< tt)))
       (λ t f. absurd (never_got f))
 

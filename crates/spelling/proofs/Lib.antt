@@ -1,4 +1,5 @@
 -- What is accepted is what is printed: `Spelling` states it. The others hold the laws that it cites, from a byte up.
+pub mod Pairs
 pub mod Places
 pub mod Digits
 pub mod Fields
