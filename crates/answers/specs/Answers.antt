@@ -1,5 +1,5 @@
 -- "Programs": the lines of each kind of answer, byte by byte. Each line ends with LF.
-use Rattle.std.specs.Prelude.{List, [], ◌∷◌, ◌++◌, ℕ, suc, ℤ, pos, None, Some}
+use Rattle.std.specs.Prelude.{Option, List, [], ◌∷◌, ◌++◌, ℕ, suc, ℤ, pos, None, Some}
 use Rattle.tariff.specs.Reply.{Reply, paid, refused, Verdict, clear, fault}
 use Rattle.tariff.specs.Total.{Sum, total, no_total}
 use Rattle.tariff.specs.Import as import

@@ -9,14 +9,14 @@ use Rattle.page.specs.Numerals.{valued}
 use Rattle.answers.specs.Answers.{total_line}
 use Rattle.answers.proofs.put_total.Goals as goal
 
-pub returns-in-Of : goal.returns-in-Of
-returns-in-Of c =
+pub returns-in-Some : goal.returns-in-Some
+returns-in-Some c =
     put_as
-    (ap (λ (t : Total). total_line (told_total t)) (sym c.in-Of.is))
+    (ap (λ (t : Total). total_line (told_total t)) (sym c.in-Some.is))
     (put_then
-    (put_as (ap (valued (bytes "total=")) (handed c.in-Of.cents.0 (search rules))) c.put_signed-behind_cents.ensures)
+    (put_as (ap (valued (bytes "total=")) (handed c.in-Some.cents.0 (search rules))) c.put_signed-behind_cents.ensures)
     c.put.ensures)
 
-pub returns-in-Withheld : goal.returns-in-Withheld
-returns-in-Withheld c =
-    put_as (ap (λ (t : Total). total_line (told_total t)) (sym c.in-Withheld.is)) c.put-in-Withheld.ensures
+pub returns-in-None : goal.returns-in-None
+returns-in-None c =
+    put_as (ap (λ (t : Total). total_line (told_total t)) (sym c.in-None.is)) c.put-in-None.ensures
