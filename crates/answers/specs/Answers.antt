@@ -9,7 +9,7 @@ use Rattle.page.specs.Numerals.{counted, valued}
 abbrev pub feed : List ℕ
 feed = LF ∷ []
 
--- what ends a refused header's line: nothing, or which of several headers it is
+-- which of several headers is refused, where that is asked for
 abbrev pub Ending : Type 0
 Ending = Option ℕ
 

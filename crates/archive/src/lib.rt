@@ -1,14 +1,15 @@
 // The archive, up and back: a stored sheet of form 1 becomes one of form 2, and back. Only the lines in front of `unit` are rewritten; the
 // blocks are not looked at.
-#![tactic(auto)]
+#![tactic(auto, using(page::proofs::Pages::pages, page::proofs::Pages::lent, std::proofs::lemmas::List::drop_all))]
 
 ghost use Rattle.std.specs.Prelude.{◌≡◌, drop};
 ghost use Rattle.io.specs.Counts.{IsPrefixLen};
 ghost use Rattle.tariff.specs.Reply.{shown};
-ghost use Rattle.page.specs.Page.{Put};
+ghost use Rattle.page.specs.Page.{Put, wrote};
 ghost use Rattle.archive.specs.Move.{goes, fits, moved, move_fault, moved_text};
 ghost use Rattle.archive.specs.Told.{is_form, fault_by};
 
+use page::Page;
 use tariff::Check;
 
 // Up from form 1 to form 2, or back down.
@@ -84,27 +85,27 @@ fn fault_of(sheet: &[u8], way: Way) -> Result<(), Check>
 }
 
 // The sheet's bytes from a place on, as they are.
-fn put_rest(page: &mut [u8], at: usize, sheet: &[u8], from: usize) -> usize
-    ensures { Put page.old at (drop from sheet.now) page.new result }
+fn put_rest(page: &mut Page, sheet: &[u8], from: usize)
+    ensures { page.new ≡ wrote page.old (drop from sheet.now) }
 {
-    if sheet.len() <= from {
-        return at;
+    if let Some(rest) = sheet.get(from..) {
+        page.put(rest);
     }
-    page::put(page, at, &sheet[from..])
 }
 
 // The other form's first lines, and what stands behind the sheet's own: 7 bytes in form 1, 16 in form 2.
-fn put_moved(page: &mut [u8], sheet: &[u8], way: Way) -> usize
-    ensures { Put page.old 0 (moved way sheet.now) page.new result }
+#[tactic(auto, using(page::proofs::Pages::pages), unfolding(crate::specs::Move::moved))]
+fn put_moved(page: &mut Page, sheet: &[u8], way: Way)
+    ensures { page.new ≡ wrote page.old (moved way sheet.now) }
 {
     match way {
         Way::Up => {
-            let behind_lines = page::put(page, 0, b"form=2\nhours=24\n");
-            put_rest(page, behind_lines, sheet, 7)
+            page.put(b"form=2\nhours=24\n");
+            put_rest(page, sheet, 7);
         }
         Way::Down => {
-            let behind_lines = page::put(page, 0, b"form=1\n");
-            put_rest(page, behind_lines, sheet, 16)
+            page.put(b"form=1\n");
+            put_rest(page, sheet, 16);
         }
     }
 }
@@ -117,11 +118,9 @@ pub fn move_sheet(sheet: &[u8], way: Way, page: &mut [u8]) -> Moved
     ensures within { IsPrefixLen result.n page.new }
 {
     let found = fault_of(sheet, way);
-    if let Err(_) = found {
-        return Moved { found, n: 0 };
+    let mut page = Page::new(page);
+    if found.is_ok() {
+        put_moved(&mut page, sheet, way);
     }
-    Moved {
-        found,
-        n: put_moved(page, sheet, way),
-    }
+    Moved { found, n: page.at }
 }

@@ -12,46 +12,28 @@ use tariff::{Interval, Kw};
 pub fn lags(v: Interval) -> bool
     ensures { result ≡ lags v }
 {
-    if units::below(v.lim, v.ae) {
-        false
-    } else {
-        true
-    }
+    v.ae <= v.lim
 }
 
 pub fn is_lower(d: Kw, live: Kw) -> bool
     ensures { result ≡ is_lower d.0 live.0 }
 {
     let zero = Kw(0);
-    if units::below(zero, d) {
-        units::below(live, d)
-    } else if units::below(d, zero) {
-        units::below(d, live)
-    } else {
-        false
-    }
+    (zero < d && live < d) || (d < zero && d < live)
 }
 
 fn lower_limit(d: Kw, live: Kw, e: Kw, a: Kw) -> Kw
     ensures { result.0 ≡ lower_limit d.0 live.0 e.0 a.0 }
 {
     let zero = Kw(0);
-    if !units::below(zero, d) {
-        return units::kw_min(
-            units::kw_min(units::kw_max(units::kw_max(d, a), e), live),
-            zero,
-        );
-    }
-    if units::below(live, e) {
-        units::kw_max(
-            units::kw_min(units::kw_max(live, units::kw_min(a, e)), d),
-            zero,
-        )
+    if zero < d {
+        if live < e {
+            live.max(a.min(e)).min(d).max(zero)
+        } else {
+            live.min(a.max(e)).min(d).max(zero)
+        }
     } else {
-        units::kw_max(
-            units::kw_min(units::kw_min(live, units::kw_max(a, e)), d),
-            zero,
-        )
+        d.max(a).max(e).min(live).min(zero)
     }
 }
 
@@ -59,44 +41,28 @@ fn is_inject(d: Kw, live: Kw) -> bool
     ensures { result ≡ is_inject d.0 live.0 }
 {
     let zero = Kw(0);
-    if units::below(zero, d) {
-        return true;
-    }
-    if units::same(d, zero) {
-        units::below(zero, live)
-    } else {
-        false
-    }
+    zero < d || (d == zero && zero < live)
 }
 
 fn is_withdraw(d: Kw, live: Kw) -> bool
     ensures { result ≡ is_withdraw d.0 live.0 }
 {
     let zero = Kw(0);
-    if units::below(d, zero) {
-        return true;
-    }
-    if units::same(d, zero) {
-        units::below(live, zero)
-    } else {
-        false
-    }
+    d < zero || (d == zero && live < zero)
 }
 
+#[tactic(auto, using(tariff::proofs::Order::min_kw, tariff::proofs::Order::max_kw), unfolding(tariff::specs::Contributions::upper_limit))]
 fn upper_limit(d: Kw, live: Kw, e: Kw, a: Kw) -> Kw
     ensures { result.0 ≡ upper_limit d.0 live.0 e.0 a.0 }
 {
     if is_inject(d, live) {
-        if units::below(live, e) {
-            return units::kw_max(live, units::kw_min(a, e));
+        if e <= live && d <= e {
+            live.min(a.max(e))
+        } else {
+            live.max(a.min(e))
         }
-        if units::below(e, d) {
-            return units::kw_max(live, units::kw_min(a, e));
-        }
-        return units::kw_min(live, units::kw_max(a, e));
-    }
-    if is_withdraw(d, live) {
-        units::kw_min(live, units::kw_max(a, e))
+    } else if is_withdraw(d, live) {
+        live.min(a.max(e))
     } else {
         Kw(0)
     }

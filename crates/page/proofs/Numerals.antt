@@ -8,6 +8,7 @@ use borrow.Author.Tests.{lt-ltb, le-ltb, ltb-true}
 use lib.IntN.{ℤ, pos, negsuc, nat_abs}
 use lib.Signed.{lt_z}
 use Rattle.exact.proofs.Apart.{impossible}
+use Rattle.exact.proofs.Bits.{handed}
 use Rattle.io.specs.Digits.{last_digits, hex_digit_ascii, IsDigitCount}
 use Rattle.text.specs.Decimal.{natural}
 use Rattle.page.specs.Numerals.{count, signed}
@@ -48,3 +49,5 @@ plain (negsuc n) e = impossible cc
 pub with_minus : (v : ℤ) → lt_z v (pos 0) ≡ true → 45 ∷ count (nat_abs v) ≡ signed v
 with_minus (pos n) e = absurd (let h = ltb-true n 0 e in omega arith)
 with_minus (negsuc n) e = refl
+
+pub ruleset numerals = (decimal_text, plain, with_minus, handed)

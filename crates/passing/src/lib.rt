@@ -1,10 +1,11 @@
 // Standard input to standard output: a stored sheet that moves up or back. Its header is judged first; then what was read is written, and what
 // follows is copied as it comes.
-#![tactic(auto)]
+#![tactic(auto, using(page::proofs::Pages::lent))]
 
 ghost use Rattle.passing.specs.Passed.{Passed};
 
 use archive::Way;
+use page::Page;
 use std::io::{Read, Stderr, Stdin, Stdout};
 use tariff::Check;
 
@@ -33,7 +34,9 @@ fn copy_rest(stdin: Stdin, stdout: Stdout) {
 // Writes a refusal to standard error.
 fn say(stderr: Stderr, found: Result<(), Check>) {
     let mut line = io::buffer();
-    let n = answers::put_found(&mut line, 0, found);
+    let mut page = Page::new(&mut line);
+    answers::put_found(&mut page, found);
+    let n = page.at;
     let _ = stderr.write_all(&line[..n]);
 }
 
