@@ -85,7 +85,7 @@ impl Schedules {
 
 impl Cuts {
     // The sum of five cuts. That of the potentials is the room, 25.5's denominator.
-    pub fn total(self) -> Cut
+    fn total(self) -> Cut
         ensures { result.0 ≡ of_five (cut_at self.kw) }
     {
         let [en, reg, r1, r2, r3] = self.kw;
