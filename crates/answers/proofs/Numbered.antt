@@ -6,11 +6,10 @@ use native.Mathlib.Numerals.{add-one}
 use native.Mathlib.Omega.{arith}
 use lib.IntN.{ℤ, pos}
 use lib.ListN.{length, get_or, take}
-use lib.Seq.{take-suc, length-take-le}
 use Rattle.std.proofs.lemmas.List.{take_min, take_all}
-use Rattle.tariff.specs.declared.HourAnswer.{HourAnswer}
+use Rattle.tariff.specs.declared.Answer.{Answer}
 use Rattle.tariff.specs.declared.Answer.TheVariants.{Paid}
-use Rattle.tariff.proofs.HourAnswers.{hour_answer, told_at_lem, told_length}
+use Rattle.tariff.proofs.HourAnswers.{told_at_lem, told_length}
 use Rattle.tariff.specs.Reply.{Reply, told}
 use Rattle.tariff.specs.Total.{told_all}
 use Rattle.answers.specs.Answers.{numbered, interval_line, hour_line}
@@ -36,24 +35,24 @@ intervals_more i l h = numbered_more interval_line 1 i (i + 1) l (pos 0) (omega 
 -- ---- the hours of a day, as they are told
 
 -- past the last hour
-abbrev none : HourAnswer
-none = hour_answer (Paid (record { 0 = pos 0 }) (record { 0 = pos 0 }))
+abbrev none : Answer
+none = Paid (record { 0 = pos 0 }) (record { 0 = pos 0 })
 
 pub told_none : told_all [] ≡ []
 unfolding told_all
 told_none = refl
 
-pub told_front : (n : ℕ) (l : List HourAnswer) → take n (told_all l) ≡ told_all (take n l)
+pub told_front : (n : ℕ) (l : List Answer) → take n (told_all l) ≡ told_all (take n l)
 unfolding told_all
 told_front zero l = refl
 told_front (suc n) [] = refl
-told_front (suc n) (x ∷ l) = ap {B = List Reply} (λ r. told x.answer ∷ r) (told_front n l)
+told_front (suc n) (x ∷ l) = ap {B = List Reply} (λ r. told x ∷ r) (told_front n l)
 
-pub hours_more : (k : ℕ) (l : List HourAnswer) → k < length l → numbered hour_line 0 (told_all (take (k + 1) l)) ≡ numbered hour_line 0 (told_all (take k l)) ++ hour_line k (told (get_or l k none).answer)
+pub hours_more : (k : ℕ) (l : List Answer) → k < length l → numbered hour_line 0 (told_all (take (k + 1) l)) ≡ numbered hour_line 0 (told_all (take k l)) ++ hour_line k (told (get_or l k none))
 hours_more k l h =
     ap (numbered hour_line 0) (sym (told_front (k + 1) l))
-    ∙ numbered_more hour_line 0 k k (told_all l) (told none.answer) (omega arith) (omega (arith, told_length l (length l) refl))
+    ∙ numbered_more hour_line 0 k k (told_all l) (told none) (omega arith) (omega (arith, told_length l (length l) refl))
     ∙ ap (λ (a : Reply). numbered hour_line 0 (take k (told_all l)) ++ hour_line k a) (told_at_lem l k none h)
-    ∙ ap (λ (r : List Reply). numbered hour_line 0 r ++ hour_line k (told (get_or l k none).answer)) (told_front k l)
+    ∙ ap (λ (r : List Reply). numbered hour_line 0 r ++ hour_line k (told (get_or l k none))) (told_front k l)
 
 pub ruleset numbers = (numbered_none, intervals_more, told_none, told_front, hours_more, take_min, take_all)

@@ -9,7 +9,7 @@ ghost use Rattle.page.specs.Page.{wrote};
 ghost use Rattle.answers.specs.Answers.{refused_line, refusal_text, pay_line, interval_line, numbered, answer_text, hour_line, total_line, ending_of, refused_ending, day_lines, import_line};
 
 use page::Page;
-use tariff::{Answer, Cents, Check, HourAnswer, ImportAnswer, ImportFault};
+use tariff::{Answer, Cents, Check, ImportAnswer, ImportFault};
 
 // The place of a refusal is followed by which of several headers it is of, where that is asked for.
 fn put_ending(page: &mut Page, check: Check, ending: Option<usize>)
@@ -94,12 +94,12 @@ fn put_hour(page: &mut Page, k: usize, answer: Answer)
 }
 
 // A line for each of the first `count` hours, or for all that there are if there are fewer.
-fn put_hours(page: &mut Page, hours: &[HourAnswer], count: usize)
+fn put_hours(page: &mut Page, hours: &[Answer], count: usize)
     ensures { page.new ≡ wrote page.old (numbered hour_line 0 (take count (told_all hours.now))) }
 {
     let count = count.min(hours.len());
-    for (k, hour) in hours[..count].iter().enumerate() {
-        put_hour(page, k, hour.answer);
+    for (k, answer) in hours[..count].iter().enumerate() {
+        put_hour(page, k, *answer);
     }
 }
 
@@ -118,7 +118,7 @@ pub fn put_day(
     page: &mut Page,
     found: Result<(), Check>,
     ending: Option<usize>,
-    hours: &[HourAnswer],
+    hours: &[Answer],
     count: usize,
     total: Option<Cents>,
 )

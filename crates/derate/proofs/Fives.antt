@@ -1,18 +1,26 @@
 -- Arrays of five: filled place by place, the ranges of all five, and the parts and shares of a reduction in them.
 use mathlib.Core.Path.{◌≡◌, refl, ◌∙◌, ap}
+use mathlib.Core.Bool.{true}
 use mathlib.Core.List.{List, [], ◌∷◌}
-use Prim.Native.Nat.{ℕ, zero, suc, ◌+◌, ◌<◌, ◌≤◌}
+use Prim.Native.Nat.{ℕ, zero, suc, ◌<◌, ◌≤◌}
 use native.Mathlib.Omega.{arith}
-use lib.Dec.{ltb, eqb}
-use lib.IntN.{ℤ, pos}
+use lib.Dec.{eqb}
+use lib.IntN.{ℤ, pos, ◌-ℤ◌}
 use lib.ListN.{length, get_or, set}
 use Rattle.std.specs.Prelude.{if◌then◌else◌}
-use Rattle.exact.specs.Whole.{Within}
-use Rattle.tariff.specs.Derate.{of_five, floor_of, remainder, share}
+use Rattle.exact.specs.Whole.{over, Within}
+use Rattle.exact.proofs.Range.{within_zero, within_less}
+use Rattle.exact.proofs.Tests.{and_left, and_right}
+use Rattle.tariff.specs.declared.Kw.{Kw}
+use Rattle.tariff.specs.Units.{kw}
+use Rattle.tariff.specs.Sheet.{is_power}
+use Rattle.tariff.specs.Derate.{of_five, floor_of, share}
+use Rattle.tariff.proofs.Ranges.{power_within}
 use Rattle.tariff.proofs.Ranks.{five, at_five}
 use Rattle.tariff.proofs.Shares.{floor_bound, floors_left, share_bound}
 use Rattle.derate.specs.declared.cuts.Cut.{Cut}
-use Rattle.derate.specs.Five.{kw_five, cut_five, kw_at, cut_at, Close, SmallFive, floor_by, remainder_by}
+use Rattle.derate.specs.Five.{cut, kw_five, cut_five, kw_at, cut_at, Close, SmallFive}
+use Rattle.derate.specs.Derated.{all_powers}
 
 -- ---- what stands at each of five places
 
@@ -37,50 +45,13 @@ five_long nothing (a ∷ b ∷ c ∷ []) h = absurd (omega arith)
 five_long nothing (a ∷ b ∷ c ∷ d ∷ []) h = absurd (omega arith)
 five_long nothing (a ∷ b ∷ c ∷ d ∷ e ∷ f ∷ l) h = absurd (omega arith)
 
--- ---- an array filled, and a sum taken, up to place j
+-- ---- an array known place by place
 
--- f at the places before j, and nothing from j on
-abbrev till : {A : Type 0} → A → (ℕ → A) → ℕ → ℕ → A
-till nothing f j k = if ltb k j then f k else nothing
+pub cuts_same : {l : List Cut} (f : ℕ → ℕ) → length l ≡ 5 → ((j : ℕ) → j < 5 → cut_at l j ≡ f j) → l ≡ cut_five f
+cuts_same {l} f long h = five_long (cut 0) l long ∙ fives_same _ _ (λ j u. ap cut (h j u))
 
-pub record Filled {A : Type 0} (nothing : A) (f : ℕ → A) (l : List A) (j : ℕ) : Type 0 where
-  pub few : j ≤ 5
-  pub same : l ≡ five_of (till nothing f j)
-
-pub filled_none : {A : Type 0} {nothing : A} {f : ℕ → A} → Filled nothing f (five_of (λ k. nothing)) 0
-filled_none = record { few = omega arith; same = refl }
-
-module _ {A : Type 0} {nothing : A} {f : ℕ → A} {l : List A} {j : ℕ} (o : Filled nothing f l j) where
-  pub filled_more : j < 5 → {r : A} → r ≡ f j → Filled nothing f (set l j r) (j + 1)
-  filled_more u p =
-      record {
-        few = omega arith;
-        same =
-            rw (o.same, p)
-            (at_five (λ j. set (five_of (till nothing f j)) j (f j) ≡ five_of (till nothing f (j + 1))) (refl, refl, refl, refl, refl) j u);
-      }
-
-  pub filled_all : 5 ≤ j → l ≡ five_of f
-  filled_all u = let end : j ≡ 5 = let v = o.few in omega arith in o.same ∙ ap (λ j. five_of (till nothing f j)) end
-
--- the sum of f at the places before j
-pub record Summed (f : ℕ → ℕ) (sum j : ℕ) : Type 0 where
-  pub few : j ≤ 5
-  pub same : sum ≡ of_five (till 0 f j)
-
-pub summed_none : {f : ℕ → ℕ} → Summed f 0 0
-summed_none = record { few = omega arith; same = refl }
-
-module _ {f : ℕ → ℕ} {sum j : ℕ} (o : Summed f sum j) where
-  pub summed_more : j < 5 → {n : ℕ} → n ≡ f j → Summed f (sum + n) (j + 1)
-  summed_more u p =
-      record {
-        few = omega arith;
-        same = rw (o.same, p) (at_five (λ j. of_five (till 0 f j) + f j ≡ of_five (till 0 f (j + 1))) (omega arith) j u);
-      }
-
-  pub summed_all : 5 ≤ j → sum ≡ of_five f
-  summed_all u = let end : j ≡ 5 = let v = o.few in omega arith in o.same ∙ ap (λ j. of_five (till 0 f j)) end
+pub kws_made : (l : List Kw) (p q r s t : ℤ) → length l ≡ 5 → kw_at l 0 ≡ p → kw_at l 1 ≡ q → kw_at l 2 ≡ r → kw_at l 3 ≡ s → kw_at l 4 ≡ t → l ≡ kw p ∷ kw q ∷ kw r ∷ kw s ∷ kw t ∷ []
+kws_made l p q r s t long e₀ e₁ e₂ e₃ e₄ = five_long (kw (pos 0)) l long ∙ (λ i. kw (e₀ i) ∷ kw (e₁ i) ∷ kw (e₂ i) ∷ kw (e₃ i) ∷ kw (e₄ i) ∷ [])
 
 -- ---- what stands at any place, where nothing stands past the fifth
 
@@ -103,38 +74,34 @@ kws_back f h = by_place (kw_at (kw_five f)) f refl refl refl refl refl h
 
 -- ---- the ranges of all five
 
-pub small_all : (l : List Cut) → SmallFive l → (cut_at l 0 ≤ 4000000) × (cut_at l 1 ≤ 4000000) × (cut_at l 2 ≤ 4000000) × (cut_at l 3 ≤ 4000000) × (cut_at l 4 ≤ 4000000)
-small_all l s = five (λ j. cut_at l j ≤ 4000000) s.small
-
 pub smalls : (f : ℕ → ℕ) → ((j : ℕ) → j < 5 → f j ≤ 4000000) → SmallFive (cut_five f)
 smalls f h = record { small = at_five (λ j. cut_at (cut_five f) j ≤ 4000000) (five (λ j. f j ≤ 4000000) h) }
 
 pub closes : (f : ℕ → ℤ) → ((j : ℕ) → j < 5 → Within 2000000 (f j)) → Close (kw_five f)
 closes f h = record { close = at_five (λ j. Within 2000000 (kw_at (kw_five f) j)) (five (λ j. Within 2000000 (f j)) h) }
 
--- ---- the parts of a reduction, by the room
+-- five schedules that are tested in their order
+power_at : (l : List Kw) → all_powers l ≡ true → (j : ℕ) → Within 2000000 (kw_at l j)
+power_at [] e j = within_zero 2000000
+power_at (k ∷ l) e zero = power_within (and_left (is_power k.0) (all_powers l) e)
+power_at (k ∷ l) e (suc j) = power_at l (and_right (is_power k.0) (all_powers l) e) j
 
-pub floor_is : (pot : ℕ → ℕ) (red room : ℕ) → room ≡ of_five pot → (j : ℕ) → floor_by room (pot j) red ≡ floor_of pot red j
-unfolding floor_of
-floor_is pot red room e j = rw e
+pub close_if : (l : List Kw) → all_powers l ≡ true → Close l
+close_if l e = record { close = λ j u. power_at l e j }
 
-pub remainder_is : (pot : ℕ → ℕ) (red room : ℕ) → room ≡ of_five pot → (j : ℕ) → remainder_by room (pot j) red ≡ remainder pot red j
-unfolding remainder
-remainder_is pot red room e j = rw e
+pub gap_small : (d live : List Kw) (j : ℕ) → Close d → Close live → j < 5 → over (kw_at d j -ℤ kw_at live j) ≤ 4000000
+gap_small d live j cd cl u = (within_less (cd.close j u) (cl.close j u)).above
 
 -- ---- the shares of a reduction that has room
 
-pub shares_small : (pot : List Cut) (red : ℕ) → SmallFive pot → red ≤ of_five (cut_at pot) → (l : List Cut) → l ≡ cut_five (share (cut_at pot) red) → SmallFive l
-shares_small pot red small fits l e =
-    rw e (smalls (share (cut_at pot) red) (λ j u. omega (arith, share_bound (cut_at pot) red fits j, small.small j u)))
+module _ (pot : List Cut) (red : ℕ) where
+  pub shares_small : SmallFive pot → red ≤ of_five (cut_at pot) → {l : List Cut} → l ≡ cut_five (share (cut_at pot) red) → SmallFive l
+  shares_small small fits e =
+      rw e (smalls (share (cut_at pot) red) (λ j u. omega (arith, share_bound (cut_at pot) red fits j, small.small j u)))
 
-module _ (pot : List Cut) (red : ℕ) (small : SmallFive pot) (fits : red ≤ of_five (cut_at pot)) {rounded : List Cut} (e : rounded ≡ cut_five (floor_of (cut_at pot) red)) where
-  pub rounded_small : SmallFive rounded
-  rounded_small =
+  pub rounded_small : SmallFive pot → red ≤ of_five (cut_at pot) → {rounded : List Cut} → rounded ≡ cut_five (floor_of (cut_at pot) red) → SmallFive rounded
+  rounded_small small fits e =
       rw e (smalls (floor_of (cut_at pot) red) (λ j u. omega (arith, floor_bound (cut_at pot) red fits j, small.small j u)))
 
-  rounded_sum : of_five (cut_at rounded) ≡ of_five (floor_of (cut_at pot) red)
-  rounded_sum = ap (λ l. of_five (cut_at l)) e
-
-  pub rounded_within : (sum : ℕ) → sum ≡ of_five (cut_at rounded) → sum ≤ red
-  rounded_within sum h = omega (arith, rounded_sum, floors_left (cut_at pot) red fits)
+  pub rounded_within : red ≤ of_five (cut_at pot) → {rounded : List Cut} → rounded ≡ cut_five (floor_of (cut_at pot) red) → {sum : ℕ} → sum ≡ of_five (cut_at rounded) → sum ≤ red
+  rounded_within fits e h = omega (arith, ap (λ l. of_five (cut_at l)) e, floors_left (cut_at pot) red fits)

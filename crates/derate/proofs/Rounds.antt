@@ -16,7 +16,7 @@ use Rattle.tariff.proofs.Ranks.{five_same}
 use Rattle.tariff.proofs.Shares.{left_small}
 use Rattle.tariff.proofs.Rounds.{largest_waits, largest_same, served_next, served_as_many, rounds_are_ranks}
 use Rattle.derate.specs.declared.cuts.Cut.{Cut}
-use Rattle.derate.specs.Five.{cut, cut_five, cut_at, served_at, SmallFive}
+use Rattle.derate.specs.Five.{cut, cut_five, cut_at, served_at}
 use Rattle.derate.proofs.Fives.{five_of, fives_same, five_set, five_at, five_long}
 
 -- a share after so many rounds
@@ -40,9 +40,6 @@ module _ {rounded rem shares : List Cut} {served : List Bool} {rounds : ℕ} (o 
   as_told : (j : ℕ) → j < 5 → served_at served j ≡ served_in (cut_at rem) rounds j
   as_told j u = ap (λ l. served_at l j) o.told ∙ five_at (served_in (cut_at rem) rounds) false j u
 
-  pub handed_all : {left : ℕ} → rounds ≡ left → shares ≡ cut_five (share_after rounded rem left)
-  handed_all e = o.shared ∙ ap (λ n. cut_five (share_after rounded rem n)) e
-
   -- one of five is left for a round more
   pub handed_waits : rounds ≤ 4 → of_five (λ j. one (served_at served j)) < 5
   handed_waits few =
@@ -61,9 +58,6 @@ module _ {rounded rem shares : List Cut} {served : List Bool} {rounds : ℕ} (o 
     next_share =
         ap (λ l. cut_at l next) o.shared ∙ ap (λ c. c.0) (five_at (λ j. cut (share_after rounded rem rounds j)) (cut 0) next u)
         ∙ omega (arith, ap one (largest_waits (cut_at rem) (served_in (cut_at rem) rounds) next largest))
-
-    pub next_small : SmallFive rounded → cut_at shares next ≤ 4000000
-    next_small s = omega (arith, next_share, s.small next u)
 
     pub handed_more : {c : Cut} → c.0 ≡ cut_at shares next + 1 → Handed rounded rem (set shares next c) (set served next true) (rounds + 1)
     handed_more {c} e =

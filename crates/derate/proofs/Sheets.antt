@@ -3,12 +3,15 @@ use Rattle.tariff.specs.Units.{MaybeKw}
 use Rattle.std.specs.Prelude.{None, Some}
 use mathlib.Core.Path.{◌≡◌, refl}
 use mathlib.Core.Bool.{true, false}
+use mathlib.Core.List.{List}
 use Prim.Native.Nat.{ℕ, ◌<◌}
 use lib.IntN.{ℤ, pos, neg_ℤ}
 use lib.Signed.{le_z}
 use Rattle.exact.specs.Whole.{Within}
-use Rattle.exact.proofs.Parts.{arithℤ}
+use Rattle.exact.proofs.Apart.{impossible}
+use Rattle.exact.proofs.Parts.{arithℤ, by_test}
 use Rattle.exact.proofs.Tests.{and_both}
+use Rattle.tariff.specs.declared.Kw.{Kw}
 use Rattle.tariff.specs.declared.DayAhead.{DayAhead}
 use Rattle.tariff.specs.declared.Interval.{Interval}
 use Rattle.tariff.specs.Sheet.{is_power, ahead_in_range, uol_in_range, interval_in_range}
@@ -34,10 +37,14 @@ module _ (a : DayAhead) (v : Interval) (ea : ahead_in_range a ≡ true) (ev : in
   pub sheet_deratable : deratable a v ≡ true
   sheet_deratable = under v.uol (uol_fits v ev)
 
-  pub sheet_exceeds : (derate_of a v).exceeds ≡ exceeds_room a v
+  pub sheet_exceeds : None ≡ derate_of a v → exceeds_room a v ≡ true
   unfolding derate_of
-  sheet_exceeds = rw sheet_deratable
+  sheet_exceeds e = by_test (exceeds_room a v) (λ t. t ≡ true) (λ h. refl) (λ h. let kept : derate_of a v ≡ Some (kw_five (reduced a v)) = rw (sheet_deratable, h) in impossible cc)
 
-  pub sheet_reduced : exceeds_room a v ≡ false → (derate_of a v).schedules ≡ kw_five (reduced a v)
+  pub sheet_reduced : {q : List Kw} → Some q ≡ derate_of a v → (exceeds_room a v ≡ false) × (q ≡ kw_five (reduced a v))
   unfolding derate_of
-  sheet_reduced e = rw (sheet_deratable, e)
+  sheet_reduced {q} e =
+      by_test (exceeds_room a v)
+      (λ t. (t ≡ false) × (q ≡ kw_five (reduced a v)))
+      (λ h. let refused : derate_of a v ≡ None = rw (sheet_deratable, h) in impossible cc)
+      (λ h. let kept : derate_of a v ≡ Some (kw_five (reduced a v)) = rw (sheet_deratable, h) in (refl, cc))

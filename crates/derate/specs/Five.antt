@@ -1,5 +1,5 @@
 -- Arrays of five: schedules, and the kilowatts of a reduction.
-use Rattle.std.specs.Prelude.{if◌then◌else◌, Bool, false, List, [], ◌∷◌, ℕ, ◌*◌, ◌/◌, ◌%◌, ◌<◌, ◌≤◌, eqb, get_or, ℤ, pos}
+use Rattle.std.specs.Prelude.{Bool, false, List, [], ◌∷◌, ℕ, ◌<◌, ◌≤◌, get_or, ℤ, pos}
 use Rattle.exact.specs.Whole.{Within}
 use Rattle.tariff.specs.declared.Kw.{Kw}
 use Rattle.tariff.specs.Units.{kw}
@@ -30,10 +30,3 @@ pub record Close (l : List Kw) : Type 0 where
 -- each of five cuts is at most the distance of two powers
 pub record SmallFive (l : List Cut) : Type 0 where
   pub small : (j : ℕ) → j < 5 → cut_at l j ≤ 4000000
-
--- a potential's part of the reduction in a room: rounded down, and what that leaves
-abbrev pub floor_by : (room pot red : ℕ) → ℕ
-floor_by room pot red = if eqb room 0 then 0 else pot * red / room
-
-abbrev pub remainder_by : (room pot red : ℕ) → ℕ
-remainder_by room pot red = if eqb room 0 then 0 else pot * red % room

@@ -1,76 +1,34 @@
-// Kilowatts of a reduction, one operation to a function.
-ghost use Rattle.std.specs.Prelude.{◌≡◌, ◌+◌, ◌-◌, ◌≤◌, pos, ◌+ℤ◌, ◌-ℤ◌};
-ghost use Rattle.exact.specs.Whole.{over, Within};
-ghost use Rattle.derate.specs.Five.{floor_by, remainder_by};
+// Kilowatts of a reduction.
+ghost use Rattle.std.specs.Prelude.{◌≡◌, ◌<◌, ◌^◌, pos, ◌-ℤ◌, FitsSigned};
+ghost use mir.Syntax.{w64};
+ghost use Rattle.exact.specs.Whole.{over};
 
+use std::ops::Sub;
 use tariff::Kw;
 
 // Kilowatts of a reduction, or what its sharing leaves over in parts of the room: never negative.
 #[derive(Clone, Copy)]
 pub struct Cut(pub u64);
 
-// Five schedules and no more are summed.
-pub fn kw_sum(sum: Kw, k: Kw) -> Kw
-    requires { Within 10000000 sum.0 × Within 2000000 k.0 }
-    ensures { result.0 ≡ sum.0 +ℤ k.0 }
-{
-    Kw(sum.0 + k.0)
-}
-
 // How far `a` lies above `b`, or nothing: a POTRED, or REDtot.
 pub fn cut_from(a: Kw, b: Kw) -> Cut
-    requires { Within 12000000 a.0 × Within 12000000 b.0 }
     ensures { result.0 ≡ over (a.0 -ℤ b.0) }
 {
-    if a.0 < b.0 {
+    if a < b {
         Cut(0)
     } else {
-        Cut((a.0 - b.0) as u64)
+        Cut(a.0.abs_diff(b.0))
     }
 }
 
-pub fn cut_minus(a: Cut, b: Cut) -> Cut
-    requires { b.0 ≤ a.0 }
-    ensures { result.0 ≡ a.0 - b.0 }
-{
-    Cut(a.0 - b.0)
-}
+impl Sub<Cut> for Kw {
+    type Output = Kw;
 
-pub fn kw_cut(das: Kw, red: Cut) -> Kw
-    requires { Within 2000000 das.0 × (red.0 ≤ 4000000) }
-    ensures { result.0 ≡ das.0 -ℤ pos red.0 }
-{
-    Kw(das.0 - (red.0 as i64))
-}
+    ghost can_sub = { λ k c. (c.0 < 2 ^ 63) × FitsSigned w64 (k.0 -ℤ pos c.0) };
 
-// A potential's part of the reduction, rounded down.
-pub fn floor_of(potred: Cut, redtot: Cut, room: Cut) -> Cut
-    requires { (potred.0 ≤ 4000000) × (redtot.0 ≤ 24000000) }
-    ensures { result.0 ≡ floor_by room.0 potred.0 redtot.0 }
-{
-    if room.0 == 0 {
-        Cut(0)
-    } else {
-        Cut(potred.0 * redtot.0 / room.0)
+    ghost sub_gives = { λ k c r. r.0 ≡ k.0 -ℤ pos c.0 };
+
+    fn sub(self, less: Cut) -> Kw {
+        Kw(self.0 - less.0 as i64)
     }
-}
-
-// What the rounding leaves over, in parts of the room.
-pub fn remainder_of(potred: Cut, redtot: Cut, room: Cut) -> Cut
-    requires { (potred.0 ≤ 4000000) × (redtot.0 ≤ 24000000) }
-    ensures { result.0 ≡ remainder_by room.0 potred.0 redtot.0 }
-{
-    if room.0 == 0 {
-        Cut(0)
-    } else {
-        Cut(potred.0 * redtot.0 % room.0)
-    }
-}
-
-// A share with a left-over kilowatt.
-pub fn one_more(c: Cut) -> Cut
-    requires { c.0 ≤ 4000000 }
-    ensures { result.0 ≡ c.0 + 1 }
-{
-    Cut(c.0 + 1)
 }

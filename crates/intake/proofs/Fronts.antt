@@ -1,20 +1,20 @@
 -- The front of a sheet, read by read: after each part it is as if all of them had come at once.
 use mathlib.Core.Path.{◌≡◌, sym, ◌∙◌, ap, ap₂}
-use mathlib.Core.Bool.{Bool, true, false, false≢true}
+use mathlib.Core.Bool.{Bool, true, false}
+use mathlib.Core.Logic.{◌⊎◌, inl, inr}
+use Rattle.std.proofs.lemmas.Bool.{both_ways}
 use mathlib.Core.List.{List, [], ◌++◌}
 use Prim.Native.Nat.{ℕ, ◌+◌, ◌-◌, ◌≤◌}
 use native.Mathlib.Omega.{arith}
 use lib.ListN.{length, take, drop, length-append}
 use lib.Seq.{length-take-le, take-append-le, take-append-add}
 use Rattle.lines.specs.Pieces.{PIECE}
-use Rattle.io.specs.Counts.{IsPrefixLen}
 use Rattle.intake.specs.declared.Part.{Part}
 use Rattle.intake.specs.declared.squeeze.Squeeze.{Squeeze}
 use Rattle.intake.specs.Squeeze.{squeeze_first, squeezed_by, squeeze_after}
 use Rattle.intake.specs.Front.{PartCame, Decides, FrontTaken}
 use Rattle.intake.specs.Front.Decides.{closed, long}
 use Rattle.intake.proofs.Squeezes.{none, split}
-use Rattle.intake.proofs.Store.{counts}
 
 -- so far: some text stands squeezed in the first n bytes of the store
 pub record SoFar (store : List ℕ) (p : Squeeze) (n : ℕ) : Type 0 where
@@ -47,19 +47,14 @@ module _ (store : List ℕ) (p : Squeeze) (n : ℕ) (h : SoFar store p n) where
         state = came.state ∙ ap (λ (x : Squeeze). squeeze_after x part) h.state ∙ sym two.1;
       }
 
-  -- ---- the input's end was met, or enough came
+  -- the input's end was met, or enough came
+  abbrev pub Stops : (ended : Bool) → Type 0
+  Stops ended = (ended ≡ true) ⊎ ((ended ≡ false) × (p.headers ≡ 0) ⊎ (ended ≡ false) × (p.headers ≡ 0 → ⊥) × (PIECE ≤ n))
 
-  abbrev Told : (ended : Bool) → Type 0
-  Told ended = IsPrefixLen n store × FrontTaken store (record { n = n; ended = ended })
-
-  pub at_end : Told true
-  at_end = (counts n store h.within, record { text = h.text; holds = h.holds; enough = λ e. absurd (false≢true (sym e)) })
-
-  decided : Decides h.text n → Told false
-  decided d = (counts n store h.within, record { text = h.text; holds = h.holds; enough = λ e. d })
-
-  pub at_closed : p.headers ≡ 0 → Told false
-  at_closed e = decided (closed (ap (λ (x : Squeeze). x.headers) (sym h.state) ∙ e))
-
-  pub at_long : PIECE ≤ n → Told false
-  at_long l = decided (long l)
+  pub taken : (ended : Bool) → Stops ended → FrontTaken store (record { n = n; ended = ended })
+  taken ended why = record { text = h.text; holds = h.holds; enough = go why }
+    where
+      go : Stops ended → ended ≡ false → Decides h.text n
+      go (inl met) e = absurd (both_ways ended e met)
+      go (inr (inl shut)) e = closed (ap (λ (x : Squeeze). x.headers) (sym h.state) ∙ shut.1)
+      go (inr (inr enough)) e = long enough.2

@@ -5,8 +5,9 @@ use mathlib.Core.List.{List, [], ◌∷◌, ◌++◌, append-nil, append_assoc}
 use Prim.Native.Nat.{ℕ, zero, suc, ◌+◌, ◌*◌, ◌-◌, ◌≤◌, ◌<◌}
 use native.Mathlib.Nat.{add-zero, zero-add}
 use native.Mathlib.Omega.{arith}
-use borrow.Author.Tests.{leb-true, leb-false, eqb-true, eqb-false, ne_eqb}
-use lib.Dec.{eqb}
+use borrow.Author.Tests.{leb-true, leb-false, ltb-true, ltb-false, ne_eqb}
+use Rattle.std.proofs.lemmas.Grind.{common_steps}
+use lib.Dec.{eqb, ltb}
 use lib.ListN.{length, take, drop, length-append}
 use lib.Seq.{take_at, length-take-le}
 use Rattle.exact.proofs.Parts.{by_test}
@@ -17,7 +18,7 @@ use Rattle.lines.proofs.Behind.{behind_in, behind_is}
 use Rattle.lines.proofs.First.{first_in, first_is}
 use Rattle.intake.specs.declared.Intake.{Intake}
 use Rattle.intake.specs.Intake.{kept, after, kept_of, placed, has_room, after_all, store_all, at_first}
-use Rattle.intake.proofs.Step.{Step, first, later, copied, closed, passed, cut, told, step, counted}
+use Rattle.intake.proofs.Step.{counted}
 use Rattle.intake.proofs.Store.{Same, one_more, no_room_lem, placed_length}
 
 -- ---- a text in two parts: the second goes on where the first left the store and the state
@@ -42,21 +43,15 @@ record Fits (store : List ℕ) (i : Intake) : Type 0 where
   last : i.left ≡ 0 → i.run ≤ 1
 
 fits_room : (store : List ℕ) (i : Intake) → Fits store i → i.n + 3 ≤ length store
-fits_room store i f =
-    by_test (eqb i.left 0) (λ t. i.n + 3 ≤ length store)
-    (λ e. let l = f.last (eqb-true i.left 0 e) in let z = eqb-true i.left 0 e in omega arith)
-    (λ e. let z = eqb-false i.left 0 e in omega arith)
+fits_room store i f = grind arith
 
 fits_next : (store other : List ℕ) (i : Intake) (b : ℕ) → length other ≡ length store → Fits store i → Fits other (after i b)
-fits_next store other i b same f = go (step i b)
-  where
-    go : {k : List ℕ} {j : Intake} → Step i b k j → Fits other j
-    go (first l r) = record { total = omega arith; enough = omega arith; last = λ z. omega arith }
-    go (later l r) = let h = f.last l in record { total = omega arith; enough = omega arith; last = λ z. omega arith }
-    go (copied l r e) = record { total = omega arith; enough = omega arith; last = λ z. absurd (l z) }
-    go (closed l r e) = record { total = omega arith; enough = omega arith; last = λ z. omega arith }
-    go (passed l r e) = record { total = omega arith; enough = omega arith; last = λ z. absurd (l z) }
-    go (cut l r e) = record { total = omega arith; enough = omega arith; last = λ z. omega arith }
+unfolding after kept
+fits_next store other i b same f = record {
+  total = grind (arith, common_steps);
+  enough = grind (arith, common_steps);
+  last = λ z. grind (arith, common_steps);
+}
 
 take_placed : (store k : List ℕ) (n : ℕ) → n ≤ length store → take (n + length k) (placed store n k) ≡ take n store ++ k
 take_placed store k n h =
@@ -97,15 +92,8 @@ abbrev numbered : ℕ → Intake → Intake
 numbered m i = record { n = m; run = i.run; start = i.start; left = i.left }
 
 after_numbered : (m : ℕ) (i : Intake) (b : ℕ) → after (numbered m i) b ≡ numbered (m + length (kept i b)) (after i b)
-after_numbered m i b = go (step i b)
-  where
-    go : {k : List ℕ} {j : Intake} → Step i b k j → after (numbered m i) b ≡ numbered (m + length k) j
-    go (first l r) = (told (numbered m i) b (first l r)).0
-    go (later l r) = (told (numbered m i) b (later l r)).0
-    go (copied l r e) = (told (numbered m i) b (copied l r e)).0
-    go (closed l r e) = (told (numbered m i) b (closed l r e)).0
-    go (passed l r e) = (told (numbered m i) b (passed l r e)).0
-    go (cut l r e) = (told (numbered m i) b (cut l r e)).0
+unfolding after kept
+after_numbered m i b = grind (arith, common_steps)
 
 kept_numbered : (m : ℕ) (i : Intake) (s : List ℕ) → kept_of (numbered m i) s ≡ kept_of i s
 unfolding kept_of kept
@@ -114,35 +102,15 @@ kept_numbered m i (b ∷ t) = rw (after_numbered m i b, kept_numbered (m + lengt
 
 -- ---- behind a piece the rest is kept as a text of one piece less
 
-filled : (start : Bool) (u : List ℕ) → behind_in start (120 ∷ 10 ∷ 10 ∷ u) ≡ u
-unfolding behind_in
-filled true u = refl
-filled false u = refl
-
-never : {A : Type 0} (i : Intake) (p : ℕ) → i.left ≡ suc p → i.left ≡ 0 → A
-never i p e f = let z : ⊥ = omega arith in absurd z
-
 -- `begins` says that a line begins where the next kept byte will stand: in a piece that is cut short it may differ
 behind_kept : (s : List ℕ) (p : ℕ) (i : Intake) (begins : Bool) → i.left ≡ suc p → (i.run < PIECE → begins ≡ i.start)
     → behind_in begins (kept_of i s) ≡ kept_of (at_first p) (behind_in i.start s)
-unfolding kept_of behind_in
+unfolding kept_of behind_in after kept
 behind_kept [] p i begins left same = refl
-behind_kept (b ∷ t) p i begins left same = go (step i b) (λ j start. behind_kept t p j start)
-  where
-    go : {k : List ℕ} {j : Intake} → Step i b k j
-        → ((j : Intake) (start : Bool) → j.left ≡ suc p → (j.run < PIECE → start ≡ j.start)
-        → behind_in start (kept_of j t) ≡ kept_of (at_first p) (behind_in j.start t))
-        → behind_in begins (k ++ kept_of j t) ≡ kept_of (at_first p) (behind_in i.start (b ∷ t))
-    go (first l r) more = never i p left l
-    go (later l r) more = never i p left l
-    go (copied l r e) more = rw (same r, e) (more _ (eqb b 10) left (λ z. refl))
-    go (closed l r e) more =
-        let q : i.left - 1 ≡ p = omega arith in
-        rw (same r, e, q) (kept_numbered (i.n + 1) (at_first p) t)
-    go (passed l r e) more = rw e (more _ begins left (λ z. absurd (let y : ⊥ = omega arith in y)))
-    go (cut l r e) more =
-        let q : i.left - 1 ≡ p = omega arith in
-        rw (filled begins, e, q) (kept_numbered (i.n + 3) (at_first p) t)
+behind_kept (b ∷ t) p i begins left same =
+    let copied = behind_kept t p (after i b) (eqb b 10) in
+    let passed = behind_kept t p (after i b) begins in
+    grind (arith, common_steps, kept_numbered (i.n + 1) (at_first p) t, kept_numbered (i.n + 3) (at_first p) t)
 
 pub next_rest : (p : ℕ) (s : List ℕ) → behind (kept_of (at_first (suc p)) s) ≡ kept_of (at_first p) (behind s)
 next_rest p s = rw (behind_is (kept_of (at_first (suc p)) s), behind_is s) (behind_kept s p (at_first (suc p)) true refl (λ z. refl))
@@ -165,26 +133,21 @@ data Kept (n : ℕ) (start : Bool) (got text : List ℕ) : Type 0 where
   front : take n got ≡ take n text → Kept n start got text
 
 first_kept : (s : List ℕ) (p : ℕ) (i : Intake) → i.left ≡ suc p → Kept (PIECE - i.run) i.start (kept_of i s) s
-unfolding kept_of first_in
+unfolding kept_of first_in after kept
 first_kept [] p i left = whole refl
-first_kept (b ∷ t) p i left = go (step i b) (λ j. first_kept t p j)
+first_kept (b ∷ t) p i left =
+    let going : eqb i.left 0 ≡ false = ne_eqb i.left 0 (λ z. omega arith) in
+    by_test (ltb i.run PIECE) (λ z. Kept (PIECE - i.run) i.start (kept_of i (b ∷ t)) (b ∷ t))
+    (λ r.
+    by_test (i.start && eqb b 10) (λ z. Kept (PIECE - i.run) i.start (kept_of i (b ∷ t)) (b ∷ t))
+    (λ e. whole (rw (going, r, e)))
+    (λ e. rw (going, r, e) (on (ltb-true i.run PIECE r) e (first_kept t p (record { n = i.n + 1; run = i.run + 1; start = eqb b 10; left = i.left }) left))))
+    (λ r. let full = ltb-false i.run PIECE r in let none : PIECE - i.run ≡ 0 = omega arith in front (rw none))
   where
-    none : {got text : List ℕ} → PIECE ≤ i.run → Kept (PIECE - i.run) i.start got text
-    none r = front (let e : PIECE - i.run ≡ 0 = omega arith in rw e)
-
     on : {got text : List ℕ} → i.run < PIECE → (i.start && eqb b 10) ≡ false → Kept (PIECE - (i.run + 1)) (eqb b 10) got text
         → Kept (PIECE - i.run) i.start (b ∷ got) (b ∷ text)
     on r e (whole h) = whole (rw (e, h))
     on r e (front h) = front (let q : PIECE - i.run ≡ suc (PIECE - (i.run + 1)) = omega arith in rw (q, h))
-
-    go : {k : List ℕ} {j : Intake} → Step i b k j → ((j : Intake) → j.left ≡ suc p → Kept (PIECE - j.run) j.start (kept_of j t) t)
-        → Kept (PIECE - i.run) i.start (k ++ kept_of j t) (b ∷ t)
-    go (first l r) more = never i p left l
-    go (later l r) more = never i p left l
-    go (copied l r e) more = on r e (more _ left)
-    go (closed l r e) more = whole (rw e)
-    go (passed l r e) more = none r
-    go (cut l r e) more = none r
 
 first_piece_lem : (p : ℕ) (s : List ℕ) → FirstKept (kept_of (at_first (suc p)) s) s
 first_piece_lem p s = go (first_kept s p (at_first (suc p)) refl)

@@ -1,21 +1,19 @@
 -- A text into a store: what is kept is placed byte by byte, as far as there is room, and a text in parts is taken in part by part.
-use mathlib.Core.Path.{◌≡◌, refl, sym, ◌∙◌, ap}
+use mathlib.Core.Path.{◌≡◌, refl, sym}
 use mathlib.Core.List.{List, [], ◌∷◌}
-use Prim.Native.Nat.{ℕ, suc, ◌+◌, ◌≤◌, ◌<◌}
-use native.Mathlib.Numerals.{add-one}
+use Prim.Native.Nat.{ℕ, ◌+◌, ◌≤◌, ◌<◌}
 use native.Mathlib.Omega.{arith}
-use borrow.Author.Tests.{le-leb, lt-leb, leb-true}
-use lib.ListN.{length, get_or, drop, drop_of_length-le}
-use lib.Seq.{drop-cons, length-sets, length-take-le}
-use Rattle.std.specs.Prelude.{if◌then◌else◌}
-use Rattle.exact.proofs.Parts.{by_test}
+use borrow.Author.Tests.{le-leb, lt-leb}
+use Rattle.std.proofs.lemmas.Grind.{common_steps}
+use lib.ListN.{length}
+use lib.Seq.{length-take-le}
 use Rattle.io.specs.Counts.{IsPrefixLen}
 use Rattle.intake.specs.declared.Intake.{Intake}
-use Rattle.intake.specs.Intake.{kept, after, placed, has_room, after_all, store_all}
-use Rattle.intake.proofs.Step.{step, stepped, counted, few}
+use Rattle.intake.specs.Intake.{kept, after, placed, after_all, store_all}
+use Rattle.intake.proofs.Step.{counted, few}
 
 pub placed_length : (store : List ℕ) (i : Intake) (b : ℕ) → i.n + 3 ≤ length store → length (placed store i.n (kept i b)) ≡ length store
-placed_length store i b room = sym (ap length (stepped i b store room (step i b)).1) ∙ length-sets store i.n (kept i b)
+placed_length store i b room = let f = few i b in grind (arith, common_steps)
 
 -- of the store only its length decides how far the text is taken in
 after_same : (store other : List ℕ) → length store ≡ length other → (i : Intake) (s : List ℕ) → after_all store i s ≡ after_all other i s
@@ -39,27 +37,17 @@ unfolding after_all store_all
 no_room_lem store i [] full = (refl, refl)
 no_room_lem store i (b ∷ t) full = rw (lt-leb _ _ full) (refl, refl)
 
--- ---- the byte at a place of a text, as the code takes it, and the text's end
-
-pub next_byte : (store other : List ℕ) (i j : Intake) (s : List ℕ) (at : ℕ) → i.n + 3 ≤ length store → at < length s
-    → j ≡ after i (get_or s at 0) → other ≡ placed store i.n (kept i (get_or s at 0))
-    → Same store i (drop at s) other j (drop (at + 1) s)
-next_byte store other i j s at room h p q = rw (drop-cons s at 0 h, add-one at, p, q) (one_more store i (get_or s at 0) (drop (suc at) s) room)
-
-pub at_end : (store : List ℕ) (i : Intake) (s : List ℕ) (at : ℕ) → length s ≤ at
-    → (i ≡ after_all store i (drop at s)) × (store ≡ store_all store i (drop at s))
+pub all_taken : (store : List ℕ) (i : Intake) (s : List ℕ) → length s ≡ 0 → (i ≡ after_all store i s) × (store ≡ store_all store i s)
 unfolding after_all store_all
-at_end store i s at h = rw (drop_of_length-le s h) (refl, refl)
+all_taken store i [] e = (refl, refl)
+all_taken store i (b ∷ t) e = absurd (omega arith)
 
 -- ---- what is kept lies in the store
 
 pub within : (store : List ℕ) (i : Intake) (s : List ℕ) → i.n ≤ length store → (after_all store i s).n ≤ length store
 unfolding after_all
 within store i [] h = h
-within store i (b ∷ t) h =
-    by_test (has_room store i) (λ r. (if r then after_all store (after i b) t else i).n ≤ length store)
-    (λ e. let f = few i b in let g = counted i b in let room = leb-true (i.n + 3) (length store) e in within store (after i b) t (omega arith))
-    (λ e. h)
+within store i (b ∷ t) h = let more = within store (after i b) t in grind (arith, common_steps, few i b, counted i b)
 
 pub kept_within : (store other : List ℕ) (i j : Intake) (s : List ℕ) → j ≡ after_all store i s → length other ≡ length store → i.n ≤ length store
     → j.n ≤ length other

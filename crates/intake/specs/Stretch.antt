@@ -1,13 +1,8 @@
 -- A stretch: the next bytes of a line, which are kept as they come, all of them at once.
-use Rattle.std.specs.Prelude.{if◌then◌else◌, Bool, false, ◌||◌, List, [], ◌∷◌, ℕ, suc, ◌+◌, ◌-◌, min, eqb, take}
+use Rattle.std.specs.Prelude.{if◌then◌else◌, false, List, [], ◌∷◌, ℕ, suc, ◌+◌, ◌-◌, min, eqb, take}
 use Rattle.lines.specs.Pieces.{PIECE}
 use Rattle.text.specs.Text.{LF}
 use Rattle.intake.specs.declared.Intake.{Intake}
-
--- whether a line feed is among the bytes
-unfoldable pub has_feed : List ℕ → Bool
-has_feed [] = false
-has_feed (b ∷ t) = eqb b LF || has_feed t
 
 -- how many bytes stand in front of the first line feed, or all of them
 unfoldable pub line_rest : List ℕ → ℕ

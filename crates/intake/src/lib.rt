@@ -43,124 +43,88 @@ pub fn at_first(pieces: usize) -> Intake
     }
 }
 
-// A piece closes where `n` bytes are kept: the next one begins, with a line.
-fn closed_at(n: usize, left: usize) -> Intake
-    requires { 1 ≤ left }
-    ensures { result ≡ record { n = n; run = 0; start = true; left = left - 1 } }
-{
-    Intake {
-        n: n,
-        run: 0,
-        start: true,
-        left: left - 1,
+impl Intake {
+    // Of a piece of which enough is kept only its empty line still is, behind an `x`: the first line feed ends the line that was cut, the
+    // second is the empty line.
+    #[tactic(auto, unfolding(crate::specs::Intake::kept, crate::specs::Intake::after))]
+    fn pass(self, store: &mut [u8], b: u8) -> Intake
+        requires { (self.n + 3 ≤ length store.old) × (self.left ≡ 0 → ⊥) × (PIECE ≤ self.run) }
+        ensures state { result ≡ after self b }
+        ensures store { store.new ≡ placed store.old self.n (kept self b) }
+    {
+        let feed = b == b'\n';
+        if self.start && feed {
+            store[self.n..self.n + 3].copy_from_slice(b"x\n\n");
+            return Intake {
+                n: self.n + 3,
+                ..at_first(self.left - 1)
+            };
+        }
+        Intake {
+            start: feed,
+            ..self
+        }
     }
-}
 
-// Behind the last piece one byte is kept: it tells that the text goes on.
-fn surplus(store: &mut [u8], i: Intake, b: u8) -> Intake
-    requires { (i.n + 3 ≤ length store.old) × (i.left ≡ 0) }
-    ensures state { result ≡ after i b }
-    ensures store { store.new ≡ placed store.old i.n (kept i b) }
-{
-    let n = i.n;
-    let run = i.run;
-    let start = i.start;
-    if run == 0 {
-        store[n] = b;
-        return Intake {
-            n: n + 1,
-            run: 1,
-            start: start,
-            left: 0,
-        };
-    }
-    Intake {
-        n: n,
-        run: 1,
-        start: start,
-        left: 0,
-    }
-}
-
-// Of a piece of which enough is kept only its empty line still is, behind an `x`: the first line feed ends the line that was cut, the
-// second is the empty line.
-fn pass(store: &mut [u8], i: Intake, b: u8) -> Intake
-    requires { (i.n + 3 ≤ length store.old) × (i.left ≡ 0 → ⊥) × (PIECE ≤ i.run) }
-    ensures state { result ≡ after i b }
-    ensures store { store.new ≡ placed store.old i.n (kept i b) }
-{
-    let n = i.n;
-    let run = i.run;
-    let start = i.start;
-    let left = i.left;
-    if start & (b == 10) {
-        store[n] = 120;
-        store[n + 1] = 10;
-        store[n + 2] = 10;
-        return closed_at(n + 3, left);
-    }
-    Intake {
-        n: n,
-        run: run,
-        start: b == 10,
-        left: left,
-    }
-}
-
-// Takes in one byte.
-fn next(store: &mut [u8], i: Intake, b: u8) -> Intake
-    requires { i.n + 3 ≤ length store.old }
-    ensures state { result ≡ after i b }
-    ensures store { store.new ≡ placed store.old i.n (kept i b) }
-{
-    let n = i.n;
-    let run = i.run;
-    let start = i.start;
-    let left = i.left;
-    if left == 0 {
-        return surplus(store, i, b);
-    }
-    if lines::PIECE <= run {
-        return pass(store, i, b);
-    }
-    store[n] = b;
-    let feed = b == 10;
-    if start & feed {
-        return closed_at(n + 1, left);
-    }
-    Intake {
-        n: n + 1,
-        run: run + 1,
-        start: feed,
-        left: left,
+    // Takes in one byte. Behind the last piece one byte is kept: it tells that the text goes on.
+    #[tactic(auto, using(crate::proofs::Step::placed_one), unfolding(crate::specs::Intake::kept, crate::specs::Intake::after))]
+    fn next(self, store: &mut [u8], b: u8) -> Intake
+        requires { self.n + 3 ≤ length store.old }
+        ensures state { result ≡ after self b }
+        ensures store { store.new ≡ placed store.old self.n (kept self b) }
+    {
+        if self.left == 0 {
+            if self.run > 0 {
+                return Intake { run: 1, ..self };
+            }
+            store[self.n] = b;
+            return Intake {
+                n: self.n + 1,
+                run: 1,
+                ..self
+            };
+        }
+        if lines::PIECE <= self.run {
+            return self.pass(store, b);
+        }
+        store[self.n] = b;
+        let feed = b == b'\n';
+        if self.start && feed {
+            return Intake {
+                n: self.n + 1,
+                ..at_first(self.left - 1)
+            };
+        }
+        Intake {
+            n: self.n + 1,
+            run: self.run + 1,
+            start: feed,
+            ..self
+        }
     }
 }
 
 // Takes in what was read of a text, as far as the store has room: a stretch of a line at once, any other byte by itself.
+#[tactic(auto, using(crate::proofs::Store::no_room_lem, crate::proofs::Store::one_more, crate::proofs::Store::all_taken, crate::proofs::Stretches::part_fits))]
 pub fn keep(store: &mut [u8], i: Intake, bytes: &[u8]) -> Intake
     ensures state { result ≡ after_all store.old i bytes.now }
     ensures store { store.new ≡ store_all store.old i bytes.now }
 {
-    if store.len() < 3 {
-        return i;
-    }
-    let last = store.len() - 3;
     let mut state = i;
-    let mut at: usize = 0;
-    while at < bytes.len() {
-        let n = state.n;
-        if last < n {
+    let mut rest = bytes;
+    while let Some((b, behind)) = rest.split_first() {
+        let free = store.len().saturating_sub(state.n);
+        if free < 3 {
             return state;
         }
-        let m = stretch::stretch_of(state, last - n + 1, &bytes[at..]);
+        let m = state.stretch_of(free - 2, rest);
         if m == 0 {
-            let b = bytes[at];
-            state = next(store, state, b);
-            at += 1;
+            state = state.next(store, *b);
+            rest = behind;
         } else {
-            let end = at + m;
-            state = stretch::take_stretch(store, state, &bytes[at..end]);
-            at = end;
+            let (part, after) = rest.split_at(m);
+            state = state.take_stretch(store, part);
+            rest = after;
         }
     }
     state
@@ -194,25 +158,16 @@ pub struct Part {
 }
 
 // Reads once, to the front of a row; a read that fails is the input's end. Which bytes come cannot be said: what stands is some text, squeezed.
-fn read_part(stdin: Stdin, row: &mut [u8], squeezed: squeeze::Squeeze) -> Part
+fn read_part(mut stdin: Stdin, row: &mut [u8], squeezed: squeeze::Squeeze) -> Part
     ensures within { IsPrefixLen result.n row.new }
     ensures came { PartCame squeezed row.new result }
 {
-    let mut stdin = stdin;
     let n = stdin.read(row).unwrap_or(0);
-    if n == 0 {
-        return Part {
-            n: 0,
-            squeezed,
-            ended: true,
-        };
-    }
-    let part = squeeze::in_place(row, n, squeezed);
-    let squeezed = part.state;
+    let part = squeeze::in_place(&mut row[..n], squeezed);
     Part {
         n: part.n,
-        squeezed,
-        ended: false,
+        squeezed: part.state,
+        ended: n == 0,
     }
 }
 
@@ -221,15 +176,10 @@ pub fn take_some(stdin: Stdin, store: &mut [u8], taken: Taken) -> Taken
     ensures { TakenMore store.old taken store.new result }
 {
     let mut chunk = io::large_buffer();
-    let kept = taken.kept;
-    let squeezed = taken.squeezed;
-    let part = read_part(stdin, &mut chunk, squeezed);
-    let m = part.n;
-    let squeezed = part.squeezed;
-    let kept = keep(store, kept, &chunk[..m]);
+    let part = read_part(stdin, &mut chunk, taken.squeezed);
     Taken {
-        kept,
-        squeezed,
+        kept: keep(store, taken.kept, &chunk[..part.n]),
+        squeezed: part.squeezed,
         ended: part.ended,
     }
 }
@@ -242,44 +192,35 @@ pub struct Front {
 }
 
 // Takes in the front of a sheet, read by read, until its header has closed or lines::PIECE bytes of it stand: no further byte can change how the
-// header is judged. Nothing says that an input ends, so the turns are counted down from a number that no run uses up.
+// header is judged. Nothing says that an input ends, so the turns have a bound that no run reaches.
+#[tactic(auto, using(crate::proofs::Fronts::none_yet, crate::proofs::Fronts::a_part_more))]
 pub fn take_front(stdin: Stdin, store: &mut [u8]) -> Front
     ensures within { IsPrefixLen result.n store.new }
     ensures taken { FrontTaken store.new result }
 {
     let mut squeezed = squeeze::at_first(1);
-    let mut n: usize = 0;
-    let mut turns = u64::MAX;
-    while turns > 0 {
+    let mut n = 0;
+    for _ in 0..u64::MAX {
         let part = read_part(stdin, &mut store[n..], squeezed);
         squeezed = part.squeezed;
         n += part.n;
-        if part.ended {
-            return Front { n, ended: true };
+        if part.ended || squeezed.headers == 0 || lines::PIECE <= n {
+            return Front {
+                n,
+                ended: part.ended,
+            };
         }
-        if squeezed.headers == 0 {
-            return Front { n, ended: false };
-        }
-        if lines::PIECE <= n {
-            return Front { n, ended: false };
-        }
-        turns -= 1;
     }
     Front { n, ended: true }
 }
 
 // Whether a byte stands behind the first `needed` of so many pieces: then no further one can matter.
+#[tactic(auto, unfolding(crate::specs::Intake::goes_past))]
 pub fn goes_past(i: Intake, pieces: usize, needed: usize) -> bool
     ensures { result ≡ goes_past i pieces needed }
 {
-    let left = i.left;
-    let run = i.run;
-    if pieces < left {
+    let Some(closed) = pieces.checked_sub(i.left) else {
         return false;
-    }
-    let closed = pieces - left;
-    if needed == closed {
-        return run != 0;
-    }
-    needed < closed
+    };
+    needed < closed || (needed == closed && i.run > 0)
 }

@@ -30,11 +30,9 @@ pub fn derated_task(a: DayAhead, v: Interval, e: Kw, place: usize) -> Task
     requires { (ahead_in_range a ≡ true) × (interval_in_range v ≡ true) }
     ensures { result ≡ derated_task a v place e.0 }
 {
-    let q = derate::derate_of(a, v);
-    if q.exceeds {
+    let Some(schedules) = derate::derate_of(a, v) else {
         return tasks::idle(Err(Check::Derate(place)));
-    }
-    let schedules = q.schedules;
+    };
     let from = schedules[0];
     let live = v.en;
     let counted = capped_output(live, v.ae, v.co);

@@ -11,7 +11,7 @@ use Rattle.tariff.specs.declared.Check.{Check}
 use Rattle.tariff.specs.Sheet.{LONGEST_DAY}
 use Rattle.tariff.specs.Reply.{Verdict, clear, fault, otherwise, number_of, place_of, told}
 use Rattle.tariff.specs.Total.{no_total, told_total, told_all}
-use Rattle.tariff.proofs.HourAnswers.{hour_answer, told_same}
+use Rattle.tariff.proofs.HourAnswers.{told_same}
 use Rattle.lines.specs.Pieces.{rest_after, is_some}
 use Rattle.lines.specs.Line.{filled}
 use Rattle.lines.proofs.Fill.{filled_same, fill_rest}
@@ -26,7 +26,7 @@ use Rattle.ledger.proofs.HourOfDay.{refused_hour, no_total_lem, hour_same, settl
 module _ (f : Front) where
   -- ---- a refused front
   module _ (check : Check) (e : f.fault ≡ fault (number_of check) (place_of check)) where
-    pub all_refused : f.hours ≤ LONGEST_DAY → told_all (replicate LONGEST_DAY (hour_answer (Refused check))) ≡ held_replies f
+    pub all_refused : f.hours ≤ LONGEST_DAY → told_all (replicate LONGEST_DAY (Refused check)) ≡ held_replies f
     unfolding up_to
     all_refused few =
         let behind : otherwise f.fault absent ≡ told (Refused check) = ap (λ (v : Verdict). otherwise v absent) e in

@@ -8,7 +8,7 @@ use Rattle.exact.proofs.Unique.{OneReply}
 use Rattle.tariff.specs.Units.{cents}
 use Rattle.tariff.proofs.Demands.{one_finding}
 use Rattle.ledger.specs.declared.Day.{Day}
-use Rattle.tariff.specs.declared.HourAnswer.{HourAnswer}
+use Rattle.tariff.specs.declared.Answer.{Answer}
 use Rattle.tariff.specs.Total.{Sum, total, no_total, told_total, Total}
 use Rattle.tariff.proofs.HourAnswers.{answers_one}
 use Rattle.ledger.specs.Day.{Front, front_of}
@@ -28,7 +28,7 @@ total_back None = refl
 total_one : (t u : Total) → told_total t ≡ told_total u → t ≡ u
 total_one t u e = sym (total_back t) ∙ ap total_told e ∙ total_back u
 
-abbrev day : Found → (header count : ℕ) → List HourAnswer → Total → Day
+abbrev day : Found → (header count : ℕ) → List Answer → Total → Day
 day found header count hours t = record { found = found; header = header; count = count; hours = hours; total = t }
 
 -- two days of one front

@@ -31,14 +31,13 @@ use Rattle.sheet.specs.Settle.{reply_to}
 use Rattle.iclblocks.specs.IclBlock as icl
 use Rattle.iclblocks.specs.IclBlock.{IclBlock, icl_block_of}
 use Rattle.iclsheet.specs.IclSettle.{icl_reply_to}
-use Rattle.tariff.specs.declared.HourAnswer.{HourAnswer}
 use Rattle.tariff.specs.Total.{sum_of, total_of, told_total, told_all, Total}
 use Rattle.ledger.specs.Day.{BlockAnswer, generator_answer, Front, hour_reply, day_reply}
 use Rattle.ledger.specs.declared.hours.Kind.{Kind}
 use Rattle.ledger.specs.declared.hours.Kind.TheVariants.{Generator, Icl}
 use Rattle.ledger.specs.IclDay.{icl_answer}
 use Rattle.ledger.specs.Walk.{answer_of, Rounded, UpToCents, Added, absent, held_replies, SettledTo}
-use Rattle.tariff.proofs.HourAnswers.{hour_answer, told_set, told_same}
+use Rattle.tariff.proofs.HourAnswers.{told_set, told_same}
 use Rattle.tariff.proofs.Totals.{sum_next}
 use Rattle.ledger.proofs.Totals.{nothing_most}
 
@@ -88,7 +87,7 @@ hour_rounded f all k = go f.fault (all (rest_after k f.body) (f.is_excluded k) (
 -- ---- k blocks of a day that is read are gone
 
 module _ (s : List ℕ) (f : Front) where
-  pub record Gone (answers : List HourAnswer) (t : Total) (i k : ℕ) : Type 0 where
+  pub record Gone (answers : List Answer) (t : Total) (i k : ℕ) : Type 0 where
     pub inside : i ≤ length s
     pub rest : drop i s ≡ rest_after k f.body
     pub answers_are : told_all answers ≡ filled k LONGEST_DAY (day_reply f) absent
@@ -96,12 +95,12 @@ module _ (s : List ℕ) (f : Front) where
     pub most : UpToCents (2600000000000 * k) (told_total t)
 
   pub gone_none : (a : Answer) (at : ℕ) → told a ≡ absent → at ≤ length s → drop at s ≡ f.body
-      → Gone (replicate LONGEST_DAY (hour_answer a)) (Some (cents (pos 0))) at 0
+      → Gone (replicate LONGEST_DAY a) (Some (cents (pos 0))) at 0
   unfolding rest_after up_to sum_of
   gone_none a at none h e =
       record { inside = h; rest = e; answers_are = told_same a LONGEST_DAY ∙ ap (replicate LONGEST_DAY) none; sum = refl; most = nothing_most }
 
-  module _ (answers : List HourAnswer) (t : Total) (i k : ℕ) (g : Gone answers t i k) where
+  module _ (answers : List Answer) (t : Total) (i k : ℕ) (g : Gone answers t i k) where
     -- the block that begins at i is block k
     pub block_reply : (a : Answer) (is_excluded : Bool) → f.fault ≡ clear → is_excluded ≡ f.is_excluded k
         → told a ≡ f.answer (drop i s) is_excluded (Says (pos k) f.hours) → told a ≡ day_reply f k
@@ -109,7 +108,7 @@ module _ (s : List ℕ) (f : Front) where
     block_reply a is_excluded c e q = q ∙ rw (g.rest, e, c)
 
     pub gone_more : (a : Answer) (u : Total) (j : ℕ) → k < LONGEST_DAY → told a ≡ day_reply f k → Added (told_total t) (told a) (told_total u) → Behind s i j
-        → Gone (set answers k (hour_answer a)) u j (k + 1)
+        → Gone (set answers k a) u j (k + 1)
     unfolding rest_after
     gone_more a u j h q add b =
         record {
@@ -124,7 +123,7 @@ module _ (s : List ℕ) (f : Front) where
         most_next k = omega arith
 
   -- all are gone
-  module _ (answers : List HourAnswer) (t : Total) (i : ℕ) (g : Gone answers t i f.hours) (c : f.fault ≡ clear) where
+  module _ (answers : List Answer) (t : Total) (i : ℕ) (g : Gone answers t i f.hours) (c : f.fault ≡ clear) where
     held : told_all answers ≡ held_replies f
     held = g.answers_are ∙ ap (λ (v : Verdict). filled f.hours LONGEST_DAY (day_reply f) (otherwise v absent)) (sym c)
 

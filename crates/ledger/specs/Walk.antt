@@ -97,7 +97,7 @@ pub record SettledTo (f : Front) (r : Settled) : Type 0 where
 
 abbrev pub refused_day : Check → (header count : ℕ) → Day
 refused_day check header count =
-    record { found = Err check; header = header; count = count; hours = replicate LONGEST_DAY (record { answer = Refused check }); total = None }
+    record { found = Err check; header = header; count = count; hours = replicate LONGEST_DAY (Refused check); total = None }
 
 -- ---- the day of a front: its fault and which header has it, its hours, their answers and the total
 

@@ -6,12 +6,12 @@ ghost use Rattle.tariff.specs.declared.Expected.TheVariants.{Says};
 ghost use Rattle.tariff.specs.Total.{told_total};
 ghost use Rattle.ledger.specs.Walk.{answer_of, Rounded, UpToCents, Added, word_front, SettledTo};
 
-use tariff::{Answer, Cents, Check, Expected, HourAnswer};
+use tariff::{Answer, Cents, Check, Expected};
 
 // The answers of a day's blocks, and their total.
 #[derive(Clone, Copy)]
 pub struct Settled {
-    pub hours: [HourAnswer; tariff::LONGEST_DAY],
+    pub hours: [Answer; tariff::LONGEST_DAY],
     pub total: Option<Cents>,
 }
 
@@ -49,12 +49,10 @@ pub fn add(total: Option<Cents>, answer: Answer) -> Option<Cents>
     requires { UpToCents 65000000000000 (told_total total) × Rounded (told answer) }
     ensures { Added (told_total total) (told answer) (told_total result) }
 {
-    match total {
-        None => None,
-        Some(sum) => match answer {
-            Answer::Refused(_) => None,
-            Answer::Paid(_, cents) => Some(Cents(sum.0 + cents.0)),
-        },
+    let sum = total?;
+    match answer {
+        Answer::Paid(_, cents) => Some(sum + cents),
+        Answer::Refused(_) => None,
     }
 }
 
@@ -63,19 +61,15 @@ pub fn settle_hours(s: &[u8], at: usize, kind: Kind, excluded: u32, hours: usize
     requires { (at ≤ length s.now) × (hours ≤ LONGEST_DAY) }
     ensures { SettledTo (word_front (answer_of kind) excluded (drop at s.now) hours) result }
 {
-    let mut answers = [HourAnswer {
-        answer: Answer::Refused(Check::Form(1)),
-    }; tariff::LONGEST_DAY];
+    let mut answers = [Answer::Refused(Check::Form(1)); tariff::LONGEST_DAY];
     let mut total = Some(Cents(0));
     let mut i = at;
-    let mut k: usize = 0;
-    while k < hours {
-        let hour = k as u32;
-        let answer = settle_hour(s, i, kind, marks::is_marked(excluded, hour), k, hours);
-        answers[k] = HourAnswer { answer };
+    for k in 0..hours {
+        let is_excluded = marks::is_marked(excluded, k as u32);
+        let answer = settle_hour(s, i, kind, is_excluded, k, hours);
+        answers[k] = answer;
         total = add(total, answer);
         i = lines::piece_after(s, i);
-        k += 1;
     }
     if i < s.len() {
         total = None;

@@ -12,7 +12,7 @@ ghost use Rattle.ledger.specs.Walk.{answer_of, FrontRead, held_replies, refused_
 
 use crate::front::Front;
 use crate::hours::Kind;
-use tariff::{Answer, Cents, Check, HourAnswer};
+use tariff::{Answer, Cents, Check};
 
 mod front;
 mod heads;
@@ -25,7 +25,7 @@ pub struct Day {
     pub found: Result<(), Check>,
     pub header: usize,
     pub count: usize,
-    pub hours: [HourAnswer; tariff::LONGEST_DAY],
+    pub hours: [Answer; tariff::LONGEST_DAY],
     pub total: Option<Cents>,
 }
 
@@ -37,9 +37,7 @@ fn refused_day(check: Check, header: usize, count: usize) -> Day
         found: Err(check),
         header,
         count,
-        hours: [HourAnswer {
-            answer: Answer::Refused(check),
-        }; tariff::LONGEST_DAY],
+        hours: [Answer::Refused(check); tariff::LONGEST_DAY],
         total: None,
     }
 }

@@ -96,9 +96,12 @@ word_all (suc n) = omega (arith, word_all n, pow-suc 2 n, pow_pos n)
 pub cut_by : (w day n : ℕ) → day ≡ 2 ^ n - 1 → bit_and w day ≡ w % 2 ^ n
 cut_by w day n mask = ap (bit_and w) mask ∙ and_mask w n
 
--- a masked word is the row that its bits say below the mask
+-- a word cut to a day is the row that its bits say
+pub cut_word : (w n : ℕ) (f : ℕ → Bool) → ((h : ℕ) → h < n → marked w h ≡ f h) → w % 2 ^ n ≡ word n f
+cut_word w n f e = sym (word_of_marks w n) ∙ word_same (marked w) f n e
+
 pub masked : (w n : ℕ) (f : ℕ → Bool) → ((h : ℕ) → h < n → marked w h ≡ f h) → bit_and w (2 ^ n - 1) ≡ word n f
-masked w n f e = and_mask w n ∙ sym (word_of_marks w n) ∙ word_same (marked w) f n e
+masked w n f e = and_mask w n ∙ cut_word w n f e
 
 -- two rows joined
 pub word_or : (n : ℕ) (f g : ℕ → Bool) → bit_or (word n f) (word n g) ≡ word n (λ h. f h || g h)

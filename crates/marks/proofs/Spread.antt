@@ -4,7 +4,7 @@ use mathlib.Core.Bool.{true, false≢true}
 use Prim.Native.Nat.{ℕ, ◌+◌, ◌-◌, ◌*◌, ◌/◌, ◌%◌, ◌^◌, ◌<◌, ◌≤◌}
 use native.Mathlib.Decide.{dec_lt, dec_le}
 use native.Mathlib.Omega.{arith}
-use lib.Bits.{bit_and, bit_or, and_mask}
+use lib.Bits.{bit_and, bit_or}
 use Rattle.tariff.specs.Eligible.{marked}
 use Rattle.marks.specs.Word.{word}
 use Rattle.marks.specs.Alone.{marked_near}
@@ -109,8 +109,6 @@ module _ (w n : ℕ) (u : n < 32) where
       back : marked_near n w h ≡ true → marked (around (w % 2 ^ n)) h ≡ true
       back e = near_from (marked w) n h e (λ g s d a b. around_has (w % 2 ^ n) h (omega arith) g a b (marked_cut w n g s ∙ d))
 
-  pub spread_word : (day : ℕ) → day ≡ 2 ^ n - 1 → bit_and (around (bit_and w day)) day ≡ word n (marked_near n w)
-  spread_word day mask =
-      ap (λ (d : ℕ). bit_and (around (bit_and w d)) d) mask
-      ∙ masked (around (bit_and w (2 ^ n - 1))) n (marked_near n w)
-      (λ h v. ap (λ (x : ℕ). marked (around x) h) (and_mask w n) ∙ spread_at h v)
+  pub spread_word : (own day : ℕ) → own ≡ w % 2 ^ n → day ≡ 2 ^ n - 1 → bit_and (around own) day ≡ word n (marked_near n w)
+  spread_word own day cut mask =
+      ap (bit_and (around own)) mask ∙ masked (around own) n (marked_near n w) (λ h v. ap (λ (x : ℕ). marked (around x) h) cut ∙ spread_at h v)

@@ -6,11 +6,13 @@ ghost use Rattle.tariff.specs.Eligible.{marked, excluded, no_marks};
 ghost use Rattle.marks.specs.Word.{word};
 ghost use Rattle.marks.specs.Days.{within};
 
+use crate::words::Day;
 use tariff::{MarkedDay, Marks};
 
 mod words;
 
-// The marks of a day of which none is known: no hour has a category, and none an exception.
+// The marks of a day of which none is known: no hour has a category, and none an exception. Written out, since a derived default is no plainer:
+// it promises zero after zero, and not this value.
 pub fn no_marks() -> Marks
     ensures { result ≡ no_marks }
 {
@@ -32,21 +34,12 @@ pub fn no_marks() -> Marks
 pub fn excluded_hours(before: MarkedDay, own: MarkedDay, after: MarkedDay) -> u32
     ensures { result ≡ word (within own).hours (excluded (within before) (within own) (within after)) }
 {
-    let last = words::at_most_the_longest(before.hours);
-    let hours = words::at_most_the_longest(own.hours);
-    let next = words::at_most_the_longest(after.hours);
-    let early = before.marks;
-    let day = own.marks;
-    let late = after.marks;
-    words::excluded_in(early, last, day, hours, late, next)
+    words::excluded_in(Day::within(before), Day::within(own), Day::within(after))
 }
 
 // Whether a word marks an hour; no hour past the word is marked.
 pub fn is_marked(word: u32, hour: u32) -> bool
     ensures { result ≡ marked word hour }
 {
-    if hour < 32 {
-        return (word >> hour) & 1 == 1;
-    }
-    false
+    hour < u32::BITS && (word >> hour) & 1 == 1
 }

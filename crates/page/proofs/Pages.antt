@@ -13,7 +13,7 @@ use Rattle.std.proofs.lemmas.List.{drop-drop}
 use Rattle.std.proofs.lemmas.List.Edits.{sets-eq}
 use Rattle.exact.proofs.Parts.{by_test}
 use Rattle.page.specs.declared.Page.{Page}
-use Rattle.page.specs.Page.{written, place_behind, wrote}
+use Rattle.page.specs.Page.{written, place_behind, Put, wrote}
 
 stored_past : (ys l : List ℕ) (i : ℕ) → length l ≤ i → sets l i ys ≡ l
 stored_past [] l i h = refl
@@ -97,5 +97,9 @@ module _ (p : Page) (text : List ℕ) where
   pub wrote_at : (wrote p text).at ≡ place_behind p.bytes.now p.at text
   unfolding wrote
   wrote_at = refl
+
+-- what a page holds behind a text is what is said of the bytes that were lent
+pub wrote_put : (p : Page) (text : List ℕ) → Put p.bytes.now p.at text (wrote p text).bytes.now (wrote p text).at
+wrote_put p text = record { bytes = wrote_bytes p text; place = wrote_at p text }
 
 pub ruleset lent = (wrote_same, wrote_bytes, wrote_at, length-sets, length-take-le)

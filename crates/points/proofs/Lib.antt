@@ -1,4 +1,4 @@
--- The laws of the scan for a point and of where an interval stands, and that the public contract has one reply.
-pub mod Climbs
+-- The laws of the steps that are taken and of where an interval stands, and that the public contract has one reply.
 pub mod Stands
+pub mod Taken
 pub mod Unique

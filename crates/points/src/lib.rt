@@ -2,10 +2,10 @@
 // the real-time curve.
 #![tactic(auto)]
 
-ghost use Rattle.std.specs.Prelude.{if◌then◌else◌, ◌≡◌, ◌&&◌};
+ghost use Rattle.std.specs.Prelude.{◌≡◌, length};
 ghost use Rattle.std.specs.Int.Signed.{le_z};
+ghost use Rattle.std.specs.List.{take_while};
 ghost use Rattle.tariff.specs.Point.{point_by};
-ghost use Rattle.points.specs.declared.Standing.TheVariants.{Lags, Pointless, At};
 ghost use Rattle.points.specs.Standing.{point_found, to_maybe, standing_of};
 
 use tariff::{Curve, Interval, Kw, Price};
@@ -19,84 +19,43 @@ pub enum Standing {
     At(Kw),
 }
 
-// A step is taken where every step before it is and it costs no more than `pen`: none behind a dear one.
-fn is_taken(before: bool, at: Price, pen: Price) -> bool
-    ensures { result ≡ (before && le_z at.0 pen.0) }
+// How many steps are taken: each costs no more than `pen`, with every step before it, so that none is taken behind a dear one.
+fn steps_taken(at: &[Price], pen: Price) -> usize
+    ensures { result ≡ length (take_while (λ p. le_z p.0 pen.0) at.now) }
 {
-    before & units::price_at_most(at, pen)
-}
-
-// The point moves on to the end of a step that is taken.
-fn moved_on(taken: bool, end: Kw, point: Kw) -> Kw
-    ensures { result.0 ≡ (if taken then end.0 else point.0) }
-{
-    if taken { end } else { point }
+    at.iter().take_while(|p| **p <= pen).count()
 }
 
 // The operating point that a real-time curve has at the price `pen`: the end of the last step that is taken, and the curve's start where none is.
 // A count above 12 is FORM's to refuse: such a curve has no point here.
+#[tactic(auto, using(crate::proofs::Taken::found_none, crate::proofs::Taken::found_many, crate::proofs::Taken::found_behind))]
 fn point_on(c: Curve, pen: Price) -> Option<Kw>
     ensures { result ≡ to_maybe (point_found c pen.0) }
 {
-    if c.n == 0 {
+    if c.n == 0 || 12 < c.n {
         return None;
     }
-    if 12 < c.n {
-        return None;
-    }
-    let n = c.n;
-    let to = c.to;
-    let at = c.at;
-    let mut point = c.start;
-    let mut taken = true;
-    let mut j: usize = 0;
-    while j < n {
-        taken = is_taken(taken, at[j], pen);
-        point = moved_on(taken, to[j], point);
-        j += 1;
-    }
-    Some(point)
+    let taken = steps_taken(&c.at[..c.n], pen);
+    Some(if taken == 0 { c.start } else { c.to[taken - 1] })
 }
 
 // E: the operating point that the sheet gives, or the one that the real-time curve has.
 fn point_of(rt: Curve, v: Interval) -> Option<Kw>
     ensures { result ≡ to_maybe (point_by v.eop (point_found rt v.pen.0)) }
 {
-    let eop = v.eop;
-    if let Some(given) = eop {
-        return Some(given);
-    }
-    point_on(rt, v.pen)
+    v.eop.or_else(|| point_on(rt, v.pen))
 }
 
-fn with_point(lags: bool, e: Kw) -> Standing
-    ensures { result ≡ (if lags then Lags else At e) }
-{
-    if lags {
-        Standing::Lags
-    } else {
-        Standing::At(e)
-    }
-}
-
-// A lagging interval asks nothing, and so lacks nothing.
-fn without_point(lags: bool) -> Standing
-    ensures { result ≡ (if lags then Lags else Pointless) }
-{
-    if lags {
-        Standing::Lags
-    } else {
-        Standing::Pointless
-    }
-}
-
-// Where an interval stands.
+// Where an interval stands. One that lags asks nothing, and so lacks nothing.
+#[tactic(auto, using(crate::proofs::Stands::held_at, crate::proofs::Stands::held_not), unfolding(crate::specs::Standing::standing_of))]
 pub fn standing_of(rt: Curve, v: Interval) -> Standing
     ensures { result ≡ standing_of rt v }
 {
-    let lags = limits::lags(v);
+    if limits::lags(v) {
+        return Standing::Lags;
+    }
     match point_of(rt, v) {
-        Some(e) => with_point(lags, e),
-        None => without_point(lags),
+        Some(e) => Standing::At(e),
+        None => Standing::Pointless,
     }
 }

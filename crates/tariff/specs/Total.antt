@@ -2,7 +2,7 @@
 -- day say in these words.
 use Rattle.std.specs.Prelude.{Option, if◌then◌else◌, ◌≡◌, Bool, List, [], ◌∷◌, ℕ, zero, suc, ℤ, pos, ◌+ℤ◌, None, Some}
 use Rattle.tariff.specs.declared.Cents.{Cents}
-use Rattle.tariff.specs.declared.HourAnswer.{HourAnswer}
+use Rattle.tariff.specs.declared.Answer.{Answer}
 use Rattle.tariff.specs.Reply.{Reply, paid, refused, told}
 
 pub data Sum : Type 0 where
@@ -44,6 +44,6 @@ abbrev pub told_total : Total → Sum
 told_total (Some cents) = total cents.0
 told_total None = no_total
 
-unfoldable pub told_all : List HourAnswer → List Reply
+unfoldable pub told_all : List Answer → List Reply
 told_all [] = []
-told_all (p ∷ ps) = told p.answer ∷ told_all ps
+told_all (p ∷ ps) = told p ∷ told_all ps

@@ -181,12 +181,6 @@ pub enum Answer {
     Refused(Check),
 }
 
-// The answer of an hour of a day: a struct, since an array of enums cannot be a field.
-#[derive(Clone, Copy)]
-pub struct HourAnswer {
-    pub answer: Answer,
-}
-
 // A line of a curtailed import's block: what 25.6 reads of an interval. `cut` is 1 where the market curtailed the import.
 #[derive(Clone, Copy)]
 pub struct Curtailed {

@@ -44,30 +44,27 @@ fn withdrawn(dasw: Kw, aew: Kw, pout: Price, s: Seconds) -> Grains
     requires { Within 2000000 dasw.0 × Within 2000000 aew.0 × Within 1000000 pout.0 × Within 900 s.0 }
     ensures { result.0 ≡ grains_of (aew.0 -ℤ dasw.0) pout.0 s.0 }
 {
-    Grains((aew.0 - dasw.0) * pout.0 * s.0)
+    (aew - dasw).priced(pout, s)
 }
 
 // An internal controllable line's interval prices the kilowatts between DASI and AEI, on the curve that its real-time schedule chooses, and
 // has its withdrawal inside the cap. One with a number out of its range asks nothing: its hour is refused for that.
+#[tactic(auto, unfolding(crate::specs::Task::icl_task_of))]
 pub fn icl_task(dasi: Kw, dasw: Kw, v: IclInterval) -> Task
     ensures { result ≡ icl_task_of dasi dasw v }
 {
-    if !(ranges::icl_ahead_in_range(dasi, dasw) & ranges::icl_interval_in_range(v)) {
+    if !ranges::icl_ahead_in_range(dasi, dasw) || !ranges::icl_interval_in_range(v) {
         return idle(Ok(()));
     }
-    let lower = units::below(v.en, dasi);
     let capped = withdrawn(dasw, v.aew, v.pout, v.s);
     let uncapped = Grains(0);
-    let limit = v.aei;
-    let pen = v.pin;
-    let s = v.s;
     Task {
         stop: Ok(()),
-        lower,
+        lower: v.en < dasi,
         from: dasi,
-        limit,
-        pen,
-        s,
+        limit: v.aei,
+        pen: v.pin,
+        s: v.s,
         beside: capped,
         others: uncapped,
     }

@@ -36,5 +36,5 @@ fn main(rt: HostRuntime) {
         say_usage(rt.stderr());
         return;
     }
-    passing::pass_sheet(&rt, Way::Up);
+    let _ = passing::pass_sheet(&rt, Way::Up);
 }

@@ -6,4 +6,4 @@ use Rattle.answers.specs.Answers.{numbered, hour_line}
 use Rattle.answers.proofs.put_hours.Given as goal
 
 abbrev pub invariant-loop-k : goal.invariant-loop-k
-invariant-loop-k l = l.page ≡ wrote l.initial.page (numbered hour_line 0 (told_all (take l.k l.hour-items)))
+invariant-loop-k l = l.page ≡ wrote l.initial.page (numbered hour_line 0 (told_all (take l.k l.answer-items)))

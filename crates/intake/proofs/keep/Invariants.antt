@@ -1,14 +1,10 @@
--- `keep` goes over each byte once. The loop's invariant: the whole text leaves the store and the state that the rest from here leaves.
-use mathlib.Core.Path.{◌≡◌}
-use Prim.Native.Nat.{◌-◌}
-use lib.ListN.{length, drop}
-use Rattle.intake.specs.Intake.{after_all, store_all}
+-- The loop's invariant: the whole text leaves the store and the state that the rest from here leaves.
+use lib.ListN.{length}
+use Rattle.intake.proofs.Store.{Same}
 use Rattle.intake.proofs.keep.Given as goal
 
-abbrev pub invariant-loop-at : goal.invariant-loop-at
-invariant-loop-at l = (length l.store ≡ length l.initial.store)
-    × (after_all l.initial.store l.initial.state l.bytes ≡ after_all l.store l.state (drop l.at l.bytes))
-    × (store_all l.initial.store l.initial.state l.bytes ≡ store_all l.store l.state (drop l.at l.bytes))
+abbrev pub invariant-loop-b : goal.invariant-loop-b
+invariant-loop-b l = Same l.initial.store l.initial.state l.bytes l.store l.state l.rest
 
-abbrev pub decreases-loop-at : goal.decreases-loop-at
-decreases-loop-at l = length l.bytes - l.at
+abbrev pub decreases-loop-b : goal.decreases-loop-b
+decreases-loop-b l = length l.rest

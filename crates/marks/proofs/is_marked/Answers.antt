@@ -1,17 +1,15 @@
--- `is_marked` reads a bit of the word; past the word there is none.
-use mathlib.Core.Path.{sym}
+-- `is_marked`: past the word there is no bit.
+use mathlib.Core.Path.{sym, ◌∙◌}
 use Prim.Native.Nat.{◌<◌, ◌^◌}
 use native.Mathlib.Nat.{lt_of_lt_of_le}
 use native.Mathlib.Omega.{arith}
 use lib.Pow.{pow_mono}
-use Rattle.marks.proofs.Marked.{bit_test, marked_past}
+use borrow.Author.Tests.{le-ltb}
+use Rattle.marks.proofs.Marked.{marked_past}
 use Rattle.marks.proofs.is_marked.Goals as goal
 
-pub returns-then-hour-lt32 : goal.returns-then-hour-lt32
-returns-then-hour-lt32 c = bit_test c.args.word c.args.hour
-
-pub returns : goal.returns
-returns c =
+pub returns-else-hour-lt-BITS : goal.returns-else-hour-lt-BITS
+returns-else-hour-lt-BITS c =
     let a = c.args in
     let u : a.word < 2 ^ 32 = omega arith in
-    sym (marked_past a.word a.hour (lt_of_lt_of_le u (pow_mono c.if-hour-lt32.false)))
+    le-ltb a.hour 32 c.if-hour-lt-BITS.false ∙ sym (marked_past a.word a.hour (lt_of_lt_of_le u (pow_mono c.if-hour-lt-BITS.false)))

@@ -1,10 +1,6 @@
--- `five::hand_out` goes round by round: before each, the shares and who is served are those after as many rounds.
-use Prim.Native.Nat.{◌-◌, ◌≤◌}
+-- `hand_out` goes round by round: before each, the shares and who is served are those after as many rounds.
 use Rattle.derate.proofs.Rounds.{Handed}
 use Rattle.derate.proofs.five.hand_out.Given as goal
 
-abbrev pub invariant-loop-rounds : goal.invariant-loop-rounds
-invariant-loop-rounds l = (l.rounds ≤ l.left.0) × Handed l.initial.red l.rem l.red l.served l.rounds
-
-abbrev pub decreases-loop-rounds : goal.decreases-loop-rounds
-decreases-loop-rounds l = l.left.0 - l.rounds
+abbrev pub invariant-loop : goal.invariant-loop
+invariant-loop l = Handed l.fn.rounded.kw l.rem l.red l.served l.counter

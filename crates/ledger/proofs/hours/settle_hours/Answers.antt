@@ -8,7 +8,6 @@ use lib.IntN.{pos}
 use lib.ListN.{drop}
 use Rattle.tariff.specs.declared.Answer.{Answer}
 use Rattle.tariff.specs.declared.Expected.TheVariants.{Says}
-use Rattle.tariff.specs.declared.HourAnswer.{HourAnswer}
 use Rattle.tariff.specs.Eligible.{marked}
 use Rattle.tariff.specs.Sheet.{LONGEST_DAY}
 use Rattle.tariff.specs.Reply.{told}
@@ -24,7 +23,7 @@ use Rattle.ledger.proofs.hours.settle_hours.Goals as goal
 abbrev day : (kind : Kind) (excluded : ℕ) (s : List ℕ) (at hours : ℕ) → Front
 day kind excluded s at hours = word_front (answer_of kind) excluded (drop at s) hours
 
-reply_is : (kind : Kind) (excluded : ℕ) (s : List ℕ) (at hours : ℕ) (answers : List HourAnswer) (t : Total) (i k : ℕ)
+reply_is : (kind : Kind) (excluded : ℕ) (s : List ℕ) (at hours : ℕ) (answers : List Answer) (t : Total) (i k : ℕ)
     → Gone s (day kind excluded s at hours) answers t i k → (a : Answer) (is_excluded : Bool) → is_excluded ≡ marked excluded k
     → told a ≡ answer_of kind (drop i s) is_excluded (Says (pos k) hours) → told a ≡ day_reply (day kind excluded s at hours) k
 reply_is kind excluded s at hours answers t i k g a is_excluded e q =
@@ -38,8 +37,8 @@ add-total-requires c =
     let a = c.args in
     let l = c.loop-k in
     let reply : told c.settle_hour-answer.result ≡ day_reply (day a.kind a.excluded a.s.now a.at a.hours) l.k =
-    reply_is a.kind a.excluded a.s.now a.at a.hours l.answers l.total l.i l.k l.invariant.1 c.settle_hour-answer.result c.is_marked.result
-    c.is_marked.ensures c.settle_hour-answer.ensures
+    reply_is a.kind a.excluded a.s.now a.at a.hours l.answers l.total l.i l.k l.invariant.1 c.settle_hour-answer.result c.is_marked-is_excluded.result
+    c.is_marked-is_excluded.ensures c.settle_hour-answer.ensures
     in
     let few : 2600000000000 * l.k ≤ 65000000000000 = omega arith in
     (most_more few l.invariant.1.most, rw reply (hour_rounded (day a.kind a.excluded a.s.now a.at a.hours) (all_rounded a.kind) l.k))
@@ -49,8 +48,8 @@ loop-k-preserved c =
     let a = c.args in
     let l = c.loop-k in
     let reply : told c.settle_hour-answer.result ≡ day_reply (day a.kind a.excluded a.s.now a.at a.hours) l.k =
-    reply_is a.kind a.excluded a.s.now a.at a.hours l.answers l.total l.i l.k l.invariant.1 c.settle_hour-answer.result c.is_marked.result
-    c.is_marked.ensures c.settle_hour-answer.ensures
+    reply_is a.kind a.excluded a.s.now a.at a.hours l.answers l.total l.i l.k l.invariant.1 c.settle_hour-answer.result c.is_marked-is_excluded.result
+    c.is_marked-is_excluded.ensures c.settle_hour-answer.ensures
     in
     let few : l.k < LONGEST_DAY = omega arith in (
       omega arith,

@@ -1,5 +1,5 @@
 -- `hours::settle_hours` meets its contract. After k blocks their answers stand in the first k places, and their total is summed.
-use Prim.Native.Nat.{◌-◌, ◌≤◌}
+use Prim.Native.Nat.{◌≤◌}
 use lib.ListN.{drop}
 use Rattle.ledger.specs.Walk.{answer_of, word_front}
 use Rattle.ledger.proofs.Walks.{Gone}
@@ -7,6 +7,3 @@ use Rattle.ledger.proofs.hours.settle_hours.Given as goal
 
 abbrev pub invariant-loop-k : goal.invariant-loop-k
 invariant-loop-k l = (l.k ≤ l.hours) × Gone l.s (word_front (answer_of l.kind) l.excluded (drop l.at l.s) l.hours) l.answers l.total l.i l.k
-
-abbrev pub decreases-loop-k : goal.decreases-loop-k
-decreases-loop-k l = l.hours - l.k

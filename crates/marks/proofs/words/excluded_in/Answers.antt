@@ -1,13 +1,6 @@
 -- `words::excluded_in` joins what excludes an hour by itself and what reaches it.
-use Rattle.marks.proofs.Excluded.{excluded_all}
+use Rattle.marks.proofs.Excluded.{excluded_word}
 use Rattle.marks.proofs.words.excluded_in.Goals as goal
 
 pub returns : goal.returns
-returns c =
-    let a = c.args in
-    excluded_all a.last a.before a.hours a.own a.next a.after _ _ _ _ _
-    c.reaching-early.ensures
-    c.reaching-day.ensures
-    c.reaching-late.ensures
-    c.spread_days-near.ensures
-    c.by_itself.ensures
+returns c = excluded_word c.args.before.of c.args.own.of c.args.after.of c.by_itself.ensures c.spread_days.ensures

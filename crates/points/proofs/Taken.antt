@@ -1,0 +1,62 @@
+-- How many steps of a curve are taken: those before the first that costs more than `pen`. The point stands behind them.
+use mathlib.Core.Path.{◌≡◌, ◌∙◌, ap}
+use mathlib.Core.Bool.{Bool, cond}
+use mathlib.Core.List.{List, [], ◌∷◌}
+use Prim.Native.Nat.{ℕ, suc, ◌+◌, ◌<◌, ◌≤◌}
+use native.Mathlib.Omega.{arith}
+use borrow.Author.Tests.{le-leb, lt-leb}
+use lib.IntN.{ℤ, pos}
+use lib.ListN.{length, take, get_or}
+use lib.Signed.{le_z}
+use Rattle.std.specs.Prelude.{if◌then◌else◌}
+use Rattle.std.specs.List.{take_while, prefix_len}
+use Rattle.std.proofs.lemmas.List.{length-take-le, get_or-take}
+use Rattle.exact.proofs.Parts.{by_test}
+use Rattle.tariff.specs.declared.Curve.{Curve}
+use Rattle.tariff.specs.declared.Price.{Price}
+use Rattle.tariff.specs.Units.{price}
+use Rattle.tariff.specs.Sheet.{price_of, begin_of}
+use Rattle.tariff.specs.Curve.{known, none}
+use Rattle.tariff.specs.Point.{first_dearer, point_on}
+use Rattle.tariff.proofs.Points.{without_steps, with_steps}
+use Rattle.points.specs.Standing.{point_found}
+
+abbrev cheap : (pen : ℤ) → Price → Bool
+cheap pen p = le_z p.0 pen
+
+module _ (prices : ℕ → ℤ) (pen : ℤ) where
+  taken_from : (j : ℕ) (at : List Price) → ((i k : ℕ) → i ≡ j + k → k < length at → prices i ≡ (get_or at k (price (pos 0))).0)
+      → first_dearer prices pen j (length at) ≡ j + length (take_while (cheap pen) at)
+  unfolding first_dearer
+  taken_from j [] same = omega arith
+  taken_from j (p ∷ at) same =
+      let more = taken_from (j + 1) at (λ i k e u. same i (suc k) (omega arith) (omega arith)) in
+      rw (same j 0 (omega arith) (omega arith))
+      (by_test (cheap pen p)
+      (λ t. (if t then first_dearer prices pen (j + 1) (length at) else j) ≡ j + length (take (cond t (1 + prefix_len (cheap pen) at) 0) (p ∷ at)))
+      (λ e. let one : 1 + prefix_len (cheap pen) at ≡ suc (prefix_len (cheap pen) at) = omega arith in rw one (omega (arith, more)))
+      (λ e. omega arith))
+
+-- ---- the point of a curve, as the code finds it
+
+module _ (c : Curve) (pen : ℤ) where
+  pub found_known : c.n ≤ 12 → point_found c pen ≡ point_on c pen
+  unfolding point_found
+  found_known u = rw (le-leb c.n 12 u)
+
+  pub found_none : c.n ≡ 0 → point_found c pen ≡ none
+  found_none e = found_known (omega arith) ∙ without_steps c pen e
+
+  pub found_many : 12 < c.n → point_found c pen ≡ none
+  unfolding point_found
+  found_many u = rw (lt-leb c.n 12 u)
+
+  pub found_behind : 0 < c.n → c.n ≤ 12 → c.n ≤ length c.at → (taken : ℕ) → taken ≡ length (take_while (cheap pen) (take c.n c.at))
+      → point_found c pen ≡ known (begin_of c taken)
+  found_behind some few long taken e =
+      let n : length (take c.n c.at) ≡ c.n = length-take-le c.n c.at long in
+      let count =
+      taken_from (price_of c) pen 0 (take c.n c.at)
+      (λ i k e u. let same : i ≡ k = omega arith in rw (get_or-take c.n c.at k (price (pos 0)) (omega arith), same)) in
+      let same : first_dearer (price_of c) pen 0 c.n ≡ taken = rw (← n) (omega (arith, count)) in
+      found_known few ∙ with_steps c pen some ∙ ap (λ (k : ℕ). known (begin_of c k)) same

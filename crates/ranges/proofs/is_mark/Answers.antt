@@ -1,8 +1,0 @@
--- `is_mark` is the test of its range.
-use mathlib.Core.Path.{◌∙◌, ap}
-use mir.Facts.{to_z-of_z}
-use Rattle.tariff.specs.Sheet.{is_mark}
-use Rattle.ranges.proofs.is_mark.Goals as goal
-
-pub returns : goal.returns
-returns c = c.lies_in.ensures ∙ ap is_mark (to_z-of_z c.ranges.m)
