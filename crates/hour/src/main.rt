@@ -5,143 +5,89 @@
 ghost use Rattle.std.specs.Prelude.{◌≡◌, false, ℕ, ◌+◌, ◌<◌, ◌≤◌, length, take};
 ghost use Rattle.io.specs.Counts.{IsPrefixLen};
 ghost use Rattle.lines.specs.Line.{ends_empty};
+ghost use Rattle.printed.specs.Printed.{hour_text};
 
-use std::env::{Env, FillError};
-use std::io::{Read, Stderr, Stdin};
-
-// Reads one byte to place n; answers how many came.
-fn read_one(stdin: Stdin, text: &mut [u8], n: usize) -> usize
-    requires { n < length text.old }
-    ensures count { result ≤ 1 }
-    ensures front { take n text.new ≡ take n text.old }
-{
-    let mut stdin = stdin;
-    let mut one = [0u8; 1];
-    let got = stdin.read(&mut one).unwrap_or(0);
-    if got == 0 {
-        return 0;
-    }
-    text[n] = one[0];
-    1
-}
-
-// Reads two bytes to place n, or one where no more came.
-fn read_two(stdin: Stdin, text: &mut [u8], n: usize) -> usize
-    requires { n + 1 < length text.old }
-    ensures count { result ≤ 2 }
-    ensures front { take n text.new ≡ take n text.old }
-{
-    let mut stdin = stdin;
-    let mut two = [0u8; 2];
-    let got = stdin.read(&mut two).unwrap_or(0);
-    if got == 0 {
-        return 0;
-    }
-    text[n] = two[0];
-    if got == 1 {
-        return 1;
-    }
-    text[n + 1] = two[1];
-    2
-}
+use program::Settles;
+use std::io::{Read, Stdin};
 
 // Reads on behind the first n bytes: two at once where the last of them is no line feed, since no empty line can end sooner, and else one.
 // Answers how many came, 0 at the end of the input.
-fn read_on(stdin: Stdin, text: &mut [u8], n: usize) -> usize
+fn read_on(mut stdin: Stdin, text: &mut [u8], n: usize) -> usize
     requires { n < length text.old }
     ensures room { n + result ≤ length text.new }
     ensures front { take n text.new ≡ take n text.old }
     ensures between { (m : ℕ) → n < m → m < n + result → ends_empty text.new m ≡ false }
 {
-    if n == 0 {
-        return read_one(stdin, text, n);
-    }
-    if text.len() - n < 2 {
-        return read_one(stdin, text, n);
-    }
-    if text[n - 1] == 10 {
-        return read_one(stdin, text, n);
-    }
-    read_two(stdin, text, n)
+    let most = if n == 0 || text.len() - n < 2 || text[n - 1] == 10 {
+        1
+    } else {
+        2
+    };
+    stdin.read(&mut text[n..n + most]).unwrap_or(0)
 }
 
 // Reads on to the close of a block of which `last` is the last byte that was taken, or to the end of the input, and drops what it reads.
-// Nothing says that an input ends, so the turns are counted down from a number that no run uses up.
+// Nothing says that an input ends, so the turns are counted up to a number that no run reaches.
 fn drop_rest(stdin: Stdin, last: u8) {
     let mut rest = [last; 3];
-    let mut turns = u64::MAX;
-    while turns > 0 {
+    for _ in 0..u64::MAX {
         let got = read_on(stdin, &mut rest, 1);
-        if got == 0 {
+        if got == 0 || lines::is_whole(&rest, got + 1) {
             return;
         }
-        if lines::is_whole(&rest, got + 1) {
-            return;
-        }
-        let newest = rest[got];
-        rest[0] = newest;
-        turns -= 1;
+        rest[0] = rest[got];
     }
 }
 
 // Reads a block to its close or to the end of the input, as much of it to the text as there is room for: no block that is as printed is
-// longer than `main` has room for, and no later byte changes the answer. In front of the last byte taken no block has ended, so nothing
+// longer than the store of `main`, and no later byte changes the answer. In front of the last byte taken no block has ended, so nothing
 // behind the closing empty line is taken; and `read_on` asks for no byte that it does not take.
+#[tactic(auto, using(lines::proofs::Whole::none_ends, lines::proofs::Whole::none_ended))]
 fn read_text(stdin: Stdin, text: &mut [u8]) -> usize
     ensures within { IsPrefixLen result text.new }
     ensures unended { (m : ℕ) → m < result → ends_empty text.new m ≡ false }
 {
-    let mut n: usize = 0;
+    let mut n = 0;
     while n < text.len() {
         let got = read_on(stdin, text, n);
-        if got == 0 {
-            return n;
-        }
         n += got;
-        if lines::is_whole(text, n) {
+        if got == 0 || lines::is_whole(text, n) {
             return n;
         }
     }
-    if n == 0 {
-        return n;
+    if n > 0 {
+        drop_rest(stdin, text[n - 1]);
     }
-    let last = text[n - 1];
-    drop_rest(stdin, last);
     n
 }
 
-// Whether an argument stands behind the program's own name.
-fn has_argument(rt: &HostRuntime) -> bool {
-    !matches!(rt.arg(1, &mut []), Err(FillError::NotPresent))
-}
+const USAGE: [&[u8]; 3] = [
+    b"hour takes no argument. It reads an hour block on standard input: hour < BLOCK\n",
+    b"It prints i=I grains=G for each interval, then hour=H pay=C; or refused=R at=L.\n",
+    b"Read on: docs/sheet.md for the block, docs/answers.md for what is printed.\n",
+];
 
-fn say(stderr: Stderr, line: &[u8]) {
-    let _ = stderr.write_all(line);
-}
+struct Hour;
 
-fn say_usage(stderr: Stderr) {
-    say(
-        stderr,
-        b"hour takes no argument. It reads an hour block on standard input: hour < BLOCK\n",
-    );
-    say(
-        stderr,
-        b"It prints i=I grains=G for each interval, then hour=H pay=C; or refused=R at=L.\n",
-    );
-    say(
-        stderr,
-        b"Read on: docs/sheet.md for the block, docs/answers.md for what is printed.\n",
-    );
+impl Settles for Hour {
+    ghost taken = { λ old new n. (m : ℕ) → m < n → ends_empty new m ≡ false };
+
+    ghost printed = { hour_text };
+
+    fn take_in(stdin: Stdin, store: &mut [u8]) -> usize {
+        read_text(stdin, store)
+    }
+
+    fn put(text: &[u8], page: &mut [u8]) -> usize {
+        printed::hour_text(text, page)
+    }
 }
 
 fn main(rt: HostRuntime) {
-    if has_argument(&rt) {
-        say_usage(rt.stderr());
+    if program::say_usage(&rt, &mut rt.stderr(), &USAGE).is_some() {
         return;
     }
-    let mut text = [0u8; lines::PIECE];
-    let n = read_text(rt.stdin(), &mut text);
+    let mut store = [0u8; lines::PIECE];
     let mut page = [0u8; printed::LONGEST];
-    let m = printed::hour_text(&text[..n], &mut page);
-    let _ = rt.stdout().write_all(&page[..m]);
+    let _ = program::settle::<Hour, _>(rt.stdin(), &mut rt.stdout(), &mut store, &mut page);
 }

@@ -2,41 +2,39 @@
 // such as a text's name, it settles nothing and says on standard error how it is used.
 #![tactic(auto)]
 
-use std::env::{Env, FillError};
-use std::io::Stderr;
+ghost use Rattle.intake.specs.Intake.{PIECES, TakenIn};
+ghost use Rattle.printed.specs.Printed.{import_text};
 
-// Whether an argument stands behind the program's own name.
-fn has_argument(rt: &HostRuntime) -> bool {
-    !matches!(rt.arg(1, &mut []), Err(FillError::NotPresent))
-}
+use program::Settles;
+use std::io::Stdin;
 
-fn say(stderr: Stderr, line: &[u8]) {
-    let _ = stderr.write_all(line);
-}
+const USAGE: [&[u8]; 3] = [
+    b"import takes no argument. It reads an import on standard input: import < TEXT\n",
+    b"It prints import=N pay=C, or refused=R hour=H at=L.\n",
+    b"Read on: docs/sheet.md for the text, docs/answers.md for what is printed.\n",
+];
 
-fn say_usage(stderr: Stderr) {
-    say(
-        stderr,
-        b"import takes no argument. It reads an import on standard input: import < TEXT\n",
-    );
-    say(
-        stderr,
-        b"It prints import=N pay=C, or refused=R hour=H at=L.\n",
-    );
-    say(
-        stderr,
-        b"Read on: docs/sheet.md for the text, docs/answers.md for what is printed.\n",
-    );
+struct Import;
+
+impl Settles for Import {
+    ghost taken = { λ old new n. TakenIn old PIECES 0 new n };
+
+    ghost printed = { import_text };
+
+    fn take_in(stdin: Stdin, store: &mut [u8]) -> usize {
+        input::take_import(stdin, store)
+    }
+
+    fn put(text: &[u8], page: &mut [u8]) -> usize {
+        printed::import_text(text, page)
+    }
 }
 
 fn main(rt: HostRuntime) {
-    if has_argument(&rt) {
-        say_usage(rt.stderr());
+    if program::say_usage(&rt, &mut rt.stderr(), &USAGE).is_some() {
         return;
     }
-    let mut text = [0u8; intake::DAY];
-    let n = input::take_import(rt.stdin(), &mut text);
+    let mut store = [0u8; intake::DAY];
     let mut page = [0u8; printed::LONGEST];
-    let m = printed::import_text(&text[..n], &mut page);
-    let _ = rt.stdout().write_all(&page[..m]);
+    let _ = program::settle::<Import, _>(rt.stdin(), &mut rt.stdout(), &mut store, &mut page);
 }

@@ -2,41 +2,39 @@
 // header's refusal alone. Given any argument, such as a sheet's name, it settles nothing and says on standard error how it is used.
 #![tactic(auto)]
 
-use std::env::{Env, FillError};
-use std::io::Stderr;
+ghost use Rattle.intake.specs.Intake.{PIECES, TakenIn};
+ghost use Rattle.printed.specs.Printed.{line_text};
 
-// Whether an argument stands behind the program's own name.
-fn has_argument(rt: &HostRuntime) -> bool {
-    !matches!(rt.arg(1, &mut []), Err(FillError::NotPresent))
-}
+use program::Settles;
+use std::io::Stdin;
 
-fn say(stderr: Stderr, line: &[u8]) {
-    let _ = stderr.write_all(line);
-}
+const USAGE: [&[u8]; 3] = [
+    b"line takes no argument. It reads a line's day on standard input: line < SHEET\n",
+    b"It prints hour=H pay=C or hour=H refused=R at=L for each hour, then total=C.\n",
+    b"Read on: docs/sheet.md for the sheet, docs/answers.md for what is printed.\n",
+];
 
-fn say_usage(stderr: Stderr) {
-    say(
-        stderr,
-        b"line takes no argument. It reads a line's day on standard input: line < SHEET\n",
-    );
-    say(
-        stderr,
-        b"It prints hour=H pay=C or hour=H refused=R at=L for each hour, then total=C.\n",
-    );
-    say(
-        stderr,
-        b"Read on: docs/sheet.md for the sheet, docs/answers.md for what is printed.\n",
-    );
+struct Line;
+
+impl Settles for Line {
+    ghost taken = { λ old new n. TakenIn old PIECES 1 new n };
+
+    ghost printed = { line_text };
+
+    fn take_in(stdin: Stdin, store: &mut [u8]) -> usize {
+        input::take_line(stdin, store)
+    }
+
+    fn put(text: &[u8], page: &mut [u8]) -> usize {
+        printed::line_text(text, page)
+    }
 }
 
 fn main(rt: HostRuntime) {
-    if has_argument(&rt) {
-        say_usage(rt.stderr());
+    if program::say_usage(&rt, &mut rt.stderr(), &USAGE).is_some() {
         return;
     }
-    let mut text = [0u8; intake::DAY];
-    let n = input::take_line(rt.stdin(), &mut text);
+    let mut store = [0u8; intake::DAY];
     let mut page = [0u8; printed::LONGEST];
-    let m = printed::line_text(&text[..n], &mut page);
-    let _ = rt.stdout().write_all(&page[..m]);
+    let _ = program::settle::<Line, _>(rt.stdin(), &mut rt.stdout(), &mut store, &mut page);
 }

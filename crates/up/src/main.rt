@@ -4,36 +4,15 @@
 #![tactic(auto)]
 
 use archive::Way;
-use std::env::{Env, FillError};
-use std::io::Stderr;
 
-// Whether an argument stands behind the program's own name.
-fn has_argument(rt: &HostRuntime) -> bool {
-    !matches!(rt.arg(1, &mut []), Err(FillError::NotPresent))
-}
-
-fn say(stderr: Stderr, line: &[u8]) {
-    let _ = stderr.write_all(line);
-}
-
-fn say_usage(stderr: Stderr) {
-    say(
-        stderr,
-        b"up takes no argument. It reads a stored sheet on standard input: up < SHEET > MOVED\n",
-    );
-    say(
-        stderr,
-        b"It writes the sheet in form 2, or refused=R at=L on standard error.\n",
-    );
-    say(
-        stderr,
-        b"Read on: docs/sheet.md for the sheet, docs/answers.md for a refusal.\n",
-    );
-}
+const USAGE: [&[u8]; 3] = [
+    b"up takes no argument. It reads a stored sheet on standard input: up < SHEET > MOVED\n",
+    b"It writes the sheet in form 2, or refused=R at=L on standard error.\n",
+    b"Read on: docs/sheet.md for the sheet, docs/answers.md for a refusal.\n",
+];
 
 fn main(rt: HostRuntime) {
-    if has_argument(&rt) {
-        say_usage(rt.stderr());
+    if program::say_usage(&rt, &mut rt.stderr(), &USAGE).is_some() {
         return;
     }
     let _ = passing::pass_sheet(&rt, Way::Up);

@@ -1,0 +1,2 @@
+-- What stands on a page.
+pub mod Shown
