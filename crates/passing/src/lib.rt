@@ -12,22 +12,15 @@ use tariff::Check;
 // Room for the front of a sheet with the line that moving up adds.
 const MOVED: usize = intake::FRONT + 9;
 
-// Copies what one read brings; answers whether more may come.
-fn copy_some(stdin: Stdin, stdout: Stdout) -> bool {
+// Copies what follows as it comes, up to the end of the input or to a write that fails. Nothing says that an input ends, so the turns are counted
+// up to a number that no run reaches. `std::io::copy` moves 8,192 bytes in a turn, and would take twice as long for a long sheet.
+fn copy_rest(mut stdin: Stdin, stdout: Stdout) {
     let mut chunk = io::large_buffer();
-    let mut stdin = stdin;
-    let n = stdin.read(&mut chunk).unwrap_or(0);
-    if n == 0 {
-        return false;
-    }
-    stdout.write_all(&chunk[..n]).is_ok()
-}
-
-// Nothing says that an input ends, so the turns are counted down from a number that no run uses up.
-fn copy_rest(stdin: Stdin, stdout: Stdout) {
-    let mut turns = u64::MAX;
-    while turns > 0 && copy_some(stdin, stdout) {
-        turns -= 1;
+    for _ in 0..u64::MAX {
+        let n = stdin.read(&mut chunk).unwrap_or(0);
+        if n == 0 || stdout.write_all(&chunk[..n]).is_err() {
+            return;
+        }
     }
 }
 
@@ -42,20 +35,18 @@ fn say(stderr: Stderr, found: Result<(), Check>) {
 
 // Moves the sheet on standard input, at the pace at which it comes, and answers what refuses it. On a refusal nothing is written to standard
 // output, and the refusal to standard error.
+#[tactic(auto, using(crate::proofs::Decided::passed))]
 pub fn pass_sheet(rt: &HostRuntime, way: Way) -> Result<(), Check>
     ensures { Passed way result }
 {
     let mut front = [0u8; intake::FRONT];
     let taken = intake::take_front(rt.stdin(), &mut front);
-    let n = taken.n;
     let mut page = [0u8; MOVED];
-    let moved = archive::move_sheet(&front[..n], way, &mut page);
-    let m = moved.n;
-    let found = moved.found;
-    say(rt.stderr(), found);
-    let written = rt.stdout().write_all(&page[..m]).is_ok();
-    if written & (0 < m) & !taken.ended {
+    let moved = archive::move_sheet(&front[..taken.n], way, &mut page);
+    say(rt.stderr(), moved.found);
+    let is_written = rt.stdout().write_all(&page[..moved.n]).is_ok();
+    if is_written && moved.n > 0 && !taken.ended {
         copy_rest(rt.stdin(), rt.stdout());
     }
-    found
+    moved.found
 }
