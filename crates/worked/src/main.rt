@@ -2,7 +2,7 @@
 #![tactic(auto)]
 
 use std::io::Stdout;
-use tariff::{Curve, DayAhead, Expected, Hour, Interval, Kw, MovePrice, Price, Seconds};
+use tariff::{Curve, DayAhead, Expected, Hour, Interval, Kw, Price, Seconds};
 
 // Two steps from 0: the minimum generation block, and the rest up to `end`.
 fn curve_to(end: i64, price: i64) -> Curve {
@@ -30,19 +30,7 @@ fn quarter(en: i64, ae: i64, co: i64, eop: i64, lim: i64) -> Interval {
         eop: Some(Kw(eop)),
         pen: Price(5000),
         lim: Kw(lim),
-        uol: None,
-        r1: Kw(0),
-        r2: Kw(0),
-        r3: Kw(0),
-        p1: Price(0),
-        p2: Price(0),
-        p3: Price(0),
-        reg: Kw(0),
-        preg: Price(0),
-        breg: Price(0),
-        mv: Kw(0),
-        pmv: MovePrice(0),
-        bmv: MovePrice(0),
+        ..records::blank_interval()
     }
 }
 
