@@ -27,7 +27,7 @@ use Rattle.intake.proofs.Store.{Same, one_more}
 
 -- ---- how many bytes stand in front of the first line feed
 
--- as std counts them
+-- the word that std has for it
 rest_is : (s : List ℕ) → line_rest s ≡ position_or_len (is_byte LF) s
 unfolding line_rest
 rest_is =
@@ -79,7 +79,7 @@ all_at_once (suc k) (b ∷ t) store i going enough stored plain =
     let last = rw (n, run, place) at more in
     (first.0 ∙ last.0, first.1 ∙ last.1)
 
--- as the code takes it in: its bytes are p, and r is what follows them
+-- as the code takes it in: its bytes are p
 module _ (store : List ℕ) (i : Intake) (s : List ℕ) (room m : ℕ) (fits : i.n + room + 2 ≤ length store) (counted : m ≡ stretch_of i room s)
     (some : m ≡ 0 → ⊥) where
   -- an open piece, with room for all of them, and no line feed among them

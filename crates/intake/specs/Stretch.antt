@@ -14,7 +14,7 @@ line_rest (b ∷ t) = if eqb b LF then 0 else suc (line_rest t)
 unfoldable pub open_for : Intake → (room : ℕ) → ℕ
 open_for i room = if eqb i.left 0 then 0 else min (PIECE - i.run) room
 
--- how many of the next bytes are
+-- how many of the next bytes are a stretch: those in front of a line feed, among as many as are kept as they come
 unfoldable pub stretch_of : Intake → (room : ℕ) → List ℕ → ℕ
 stretch_of i room s = line_rest (take (open_for i room) s)
 

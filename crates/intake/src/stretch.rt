@@ -27,7 +27,7 @@ impl Intake {
         lines::PIECE.saturating_sub(self.run).min(room)
     }
 
-    // How many of the next bytes are.
+    // How many of the next bytes are a stretch: those in front of a line feed, as far as their piece and the store have room for them.
     #[tactic(auto, unfolding(crate::specs::Stretch::stretch_of))]
     pub(crate) fn stretch_of(self, room: usize, bytes: &[u8]) -> usize
         ensures count { result ≡ stretch_of self room bytes.now }
@@ -37,7 +37,7 @@ impl Intake {
         line_rest(&bytes[..most])
     }
 
-    // Takes them in.
+    // Takes in a stretch of a line at once.
     pub(crate) fn take_stretch(self, store: &mut [u8], part: &[u8]) -> Intake
         requires { (self.n + length part.now ≤ length store.old) × (self.run + length part.now ≤ PIECE) }
         ensures state { result ≡ longer self (length part.now) }
