@@ -1,14 +1,13 @@
 -- A mark acts in its own hour and at most two before and after along the joined days, and x5 and x6 act with `rtc` alone.
 use mathlib.Core.Path.{◌≡◌, refl, sym, ◌∙◌, ap}
 use mathlib.Core.Logic.{◌≢◌}
-use mathlib.Core.Bool.{false, ◌&&◌, ◌||◌, false≢true}
+use mathlib.Core.Bool.{false, ◌||◌, false≢true}
 use Prim.Native.Nat.{ℕ, ◌+◌, ◌<◌, ◌≤◌}
 use native.Mathlib.Omega.{arith}
 use lib.Dec.{eqb}
-use lib.ListN.{get_or}
 use Rattle.tariff.specs.declared.Marks.{Marks}
 use Rattle.tariff.specs.declared.MarkedDay.{MarkedDay}
-use Rattle.tariff.specs.Eligible.{marked, near, reaches, joined, reached, excluded}
+use Rattle.tariff.specs.Eligible.{near, reaches, joined, reached, excluded}
 use Rattle.marks.specs.Days.{day_of}
 use Rattle.marks.specs.Alone.{by_itself}
 use Rattle.marks.specs.Alike.{AlikeBut, AlikeToX4, OwnHourAlike, JoinedAlikeBut}
@@ -23,7 +22,7 @@ own_hour h m n at = λ i. eqb (at.cat i) 0 || at.x1 i || at.x2 i || at.x3 i
 -- ---- an hour of the joined days that is more than two away
 
 not_that : (g k c : ℕ) → near g c ≡ false → k ≤ c + 2 → c ≤ k + 2 → k ≢ g
-not_that g k c far u v s = false≢true (sym far ∙ ap (λ (j : ℕ). near j c) (sym s) ∙ near_is k c u v)
+not_that g k c far u v s = grind (arith, false≢true, near_is)
 
 module _ (g h : ℕ) (before own after before' own' after' : MarkedDay) (alike : JoinedAlikeBut g before own after before' own' after')
     (far : near g (before.hours + h) ≡ false) where
@@ -45,14 +44,11 @@ module _ (g h : ℕ) (before own after before' own' after' : MarkedDay) (alike :
 -- ---- the same of an hour of the day itself
 
 near_behind : (l g h : ℕ) → near (l + g) (l + h) ≡ near g h
-near_behind l g h =
-    agree _ _
-    (λ e. let above = near_above (l + g) (l + h) e in let below = near_below (l + g) (l + h) e in near_is g h (omega arith) (omega arith))
-    (λ e. let above = near_above g h e in let below = near_below g h e in near_is (l + g) (l + h) (omega arith) (omega arith))
+near_behind l g h = grind (arith, agree, near_above, near_below, near_is)
 
 module _ (before after : MarkedDay) (hours : ℕ) (m n : Marks) (g : ℕ) (alike : AlikeBut g m n) where
   reach_same : (j : ℕ) → j ≢ g → reaches m j ≡ reaches n j
-  reach_same j s = let at = alike.others j s in λ i. at.x4 i || (alike.rtc i && (at.x5 i || at.x6 i))
+  reach_same j s = grind arith
 
   joined_same : (k : ℕ) → k < hours_of_all before (day_of hours m) after → k ≢ before.hours + g
       → joined before (day_of hours m) after k ≡ joined before (day_of hours n) after k
@@ -84,7 +80,4 @@ module _ (before after : MarkedDay) (hours : ℕ) (m n : Marks) (g : ℕ) (alike
 pub without_rtc : (before after : MarkedDay) (hours : ℕ) (m n : Marks) (h : ℕ) → m.rtc ≡ false → n.rtc ≡ false → AlikeToX4 m n
     → excluded before (day_of hours m) after h ≡ excluded before (day_of hours n) after h
 unfolding excluded
-without_rtc before after hours m n h off off' alike =
-    let own = reach_without_rtc hours m n off off' alike.x4 in
-    let reach = reached_alike before (day_of hours m) after before (day_of hours n) after (reach_itself before) own (reach_itself after) h in
-    λ i. eqb (get_or (alike.cat i) h 0) 0 || marked (alike.x1 i) h || marked (alike.x2 i) h || marked (alike.x3 i) h || reach i
+without_rtc before after hours m n h off off' alike = grind (arith, reach_without_rtc, reached_alike, reach_itself)

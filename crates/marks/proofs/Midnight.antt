@@ -58,11 +58,7 @@ module _ (before own after : MarkedDay) (h : ℕ) where
 
   into : h < own.hours → ByAny → excluded before own after h ≡ true
   unfolding excluded
-  into u =
-      let itself = by_itself own.marks h in
-      ⊎_elim
-      (λ e. or_cases itself (by_near own h) (sym (alone_parts own h) ∙ e) (or_first itself _) (λ d. or_second itself _ (inside_reaches d)))
-      (⊎_elim (λ r. or_second itself _ (before_reaches r)) (λ r. or_second itself _ (after_reaches u r)))
+  into u = grind (arith, ⊎_elim, or_cases, alone_parts, or_first, or_second, inside_reaches, before_reaches, after_reaches)
 
   -- An hour of the day is excluded exactly when document 01 excludes it, or a mark of a neighbour at most two hours away over midnight reaches it.
   pub exactly_when : h < own.hours
@@ -85,5 +81,4 @@ both_lacking own h =
 pub neighbours_by_what_reaches : (before before' own after after' : MarkedDay) (h : ℕ) → ReachAlike before before' → ReachAlike after after'
     → excluded before own after h ≡ excluded before' own after' h
 unfolding excluded
-neighbours_by_what_reaches before before' own after after' h b a =
-    λ i. by_itself own.marks h || reached_alike before own after before' own after' b (reach_itself own) a h i
+neighbours_by_what_reaches before before' own after after' h b a = grind (arith, reached_alike, reach_itself)

@@ -20,7 +20,7 @@ reach_from_x4 hours m n e = record {
 }
 
 x4_alone : (m : Marks) (h : ℕ) → m.rtc ≡ false → reaches m h ≡ marked m.x4 h
-x4_alone m h off = (λ i. marked m.x4 h || (off i && (marked m.x5 h || marked m.x6 h))) ∙ or-false (marked m.x4 h)
+x4_alone m h off = grind (arith, or-false)
 
 pub reach_without_rtc : (hours : ℕ) (m n : Marks) → m.rtc ≡ false → n.rtc ≡ false → m.x4 ≡ n.x4 → ReachAlike (day_of hours m) (day_of hours n)
 reach_without_rtc hours m n off off' e = record {
@@ -37,4 +37,4 @@ module _ (before own after before' own' after' : MarkedDay) (b : ReachAlike befo
       (λ j e v. of_after before own after k j e ∙ a.reach j v ∙ sym (of_after before' own' after' k j (omega arith)))
 
   pub reached_alike : (h : ℕ) → reached before own after h ≡ reached before' own' after' h
-  reached_alike h = reached_same before own after before' own' after' b.count o.count a.count h (λ k u v w. joined_alike k u)
+  reached_alike h = grind (arith, reached_same, joined_alike)

@@ -52,10 +52,7 @@ module _ (f : ℕ → Bool) where
   -- ---- the marks of a row's word
 
   word_last : (n : ℕ) → marked (word (suc n) f) n ≡ f n
-  word_last n =
-      ap (λ (x : ℕ). eqb (x / 2 ^ n % 2) 1) (word_next n)
-      ∙ ap (λ (x : ℕ). eqb (x % 2) 1) (high (if f n then 1 else 0) n (word_small n))
-      ∙ digit_mark (f n)
+  word_last n = grind (arith, word_next, high, word_small, digit_mark)
 
   word_before : (n h : ℕ) → h < n → marked (word (suc n) f) h ≡ marked (word n f) h
   word_before n h u =
@@ -128,4 +125,4 @@ module _ (f : ℕ → Bool) (h w : ℕ) (filled : w ≡ word h f) where
 
   pub skip : f h ≡ false → w ≡ word (h + 1) f
   unfolding word
-  skip e = rw (add-one h, word, e, filled) (omega arith)
+  skip e = grind (arith, add-one)

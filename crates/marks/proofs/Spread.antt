@@ -50,13 +50,13 @@ around x = bit_or (around₃ x) (x / 2 ^ 2)
 
 module _ (h : ℕ) where
   pub in_first : (a b : ℕ) → marked a h ≡ true → marked (bit_or a b) h ≡ true
-  in_first a b e = marked_or a b h ∙ or_first (marked a h) (marked b h) e
+  in_first a b e = grind (arith, marked_or, or_first)
 
   pub in_second : (a b : ℕ) → marked b h ≡ true → marked (bit_or a b) h ≡ true
-  in_second a b e = marked_or a b h ∙ or_second (marked a h) (marked b h) e
+  in_second a b e = grind (arith, marked_or, or_second)
 
   pub in_either : {P : Type 0} (a b : ℕ) → marked (bit_or a b) h ≡ true → (marked a h ≡ true → P) → (marked b h ≡ true → P) → P
-  in_either a b e = or_cases (marked a h) (marked b h) (sym (marked_or a b h) ∙ e)
+  in_either a b e = grind (arith, or_cases, marked_or)
 
 module _ (x h : ℕ) (u : h < 32) where
   from₂ : marked (around₂ x) h ≡ true → marked (around x) h ≡ true
@@ -110,5 +110,4 @@ module _ (w n : ℕ) (u : n < 32) where
       back e = near_from (marked w) n h e (λ g s d a b. around_has (w % 2 ^ n) h (omega arith) g a b (marked_cut w n g s ∙ d))
 
   pub spread_word : (own day : ℕ) → own ≡ w % 2 ^ n → day ≡ 2 ^ n - 1 → bit_and (around own) day ≡ word n (marked_near n w)
-  spread_word own day cut mask =
-      ap (bit_and (around own)) mask ∙ masked (around own) n (marked_near n w) (λ h v. ap (λ (x : ℕ). marked (around x) h) cut ∙ spread_at h v)
+  spread_word own day cut mask = grind (arith, masked, spread_at)
