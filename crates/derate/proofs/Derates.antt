@@ -1,6 +1,7 @@
 -- The derate step by step: the arrays that the code makes hold the schedules, the potentials and the shares of document 01.
+use native.Mathlib.Omega.{arith}
 use Rattle.std.specs.Prelude.{None, Some}
-use mathlib.Core.Path.{◌≡◌, refl, sym, ◌∙◌, ap}
+use mathlib.Core.Path.{◌≡◌, refl, ◌∙◌}
 use mathlib.Core.Bool.{Bool, true, false, ◌&&◌, and_assoc, and-true}
 use mathlib.Core.List.{List}
 use Prim.Native.Nat.{ℕ, ◌<◌, ◌≤◌}
@@ -12,10 +13,10 @@ use Rattle.tariff.specs.declared.Kw.{Kw}
 use Rattle.tariff.specs.declared.DayAhead.{DayAhead}
 use Rattle.tariff.specs.declared.Interval.{Interval}
 use Rattle.tariff.specs.Sheet.{is_power, all_to}
-use Rattle.tariff.specs.Derate.{day_ahead, real_time, of_five, red_tot, pot_red, share, exceeds_under, reduced_by, exceeds_room, reduced}
+use Rattle.tariff.specs.Derate.{day_ahead, real_time, of_five, red_tot, pot_red, share, exceeds_room, reduced}
 use Rattle.derate.specs.declared.cuts.Cut.{Cut}
 use Rattle.derate.specs.Five.{kw_five, cut_five, kw_at, cut_at}
-use Rattle.derate.specs.Derated.{are_powers, all_powers, deratable_under, deratable, no_room, derate_of}
+use Rattle.derate.specs.Derated.{are_powers, all_powers, deratable, no_room, derate_of}
 use Rattle.derate.proofs.Fives.{kws_back, cuts_back}
 
 -- ---- the two answers
@@ -49,20 +50,11 @@ module _ (a : DayAhead) (v : Interval) {limit : Kw} (h : v.uol ≡ Some limit) w
   live = all_powers (kw_five (real_time v))
 
   judged : deratable a v ≡ (ahead && live && is_power limit.0)
-  judged = ap (deratable_under a v) h ∙ (λ i. tests (day_ahead a) i && tests (real_time v) i && is_power limit.0)
+  judged = grind (arith, tests)
 
   -- figures that no sheet has
-  out : (ahead && live && is_power limit.0) ≡ false → None ≡ derate_of a v
-  out e = let none : deratable a v ≡ false = judged ∙ e in refused a v (rw none)
-
-  pub ahead_out : ahead ≡ false → None ≡ derate_of a v
-  ahead_out e = out (rw e)
-
-  pub live_out : ahead ≡ true → live ≡ false → None ≡ derate_of a v
-  live_out d e = out (rw (d, e))
-
-  pub limit_out : ahead ≡ true → live ≡ true → is_power limit.0 ≡ false → None ≡ derate_of a v
-  limit_out d l e = out (rw (d, l, e))
+  pub out : (ahead && live && is_power limit.0) ≡ false → None ≡ derate_of a v
+  out e = grind (arith, judged, refused)
 
   module _ (ea : ahead ≡ true) (ev : live ≡ true) (eu : is_power limit.0 ≡ true) {das rts : List Kw} (ed : das ≡ kw_five (day_ahead a)) (el : rts ≡ kw_five (real_time v))
       {pot : List Cut} (ep : pot ≡ cut_five (λ j. over (kw_at das j -ℤ kw_at rts j)))
@@ -77,14 +69,14 @@ module _ (a : DayAhead) (v : Interval) {limit : Kw} (h : v.uol ≡ Some limit) w
     pots_at = rw (ep, ed, el) (cuts_back (pot_red a v) (λ k. refl))
 
     red_at : red ≡ red_tot a limit.0
-    red_at = er ∙ ap (λ z. over (z -ℤ limit.0)) (es ∙ ap (λ f. sum_to f 5) ahead_at)
+    red_at = grind (arith, ahead_at)
 
     over_room : exceeds_room a v ≡ ltb (of_five (cut_at pot)) red
     unfolding exceeds_room
-    over_room = ap (exceeds_under a v) h ∙ (λ i. ltb (of_five (sym pots_at i)) (sym red_at i))
+    over_room = grind (arith, pots_at, red_at)
 
     pub exceeded : of_five (cut_at pot) < red → None ≡ derate_of a v
-    exceeded u = refused a v (rw (inside, over_room, lt-ltb (of_five (cut_at pot)) red u))
+    exceeded u = grind (arith, refused, inside, over_room, lt-ltb)
 
     pub shared :
         red ≤ of_five (cut_at pot)
@@ -94,9 +86,4 @@ module _ (a : DayAhead) (v : Interval) {limit : Kw} (h : v.uol ≡ Some limit) w
         → q ≡ kw_five (λ j. kw_at das j -ℤ pos (cut_at l j))
         → Some q ≡ derate_of a v
     unfolding reduced
-    shared u f g =
-        kept a v (rw (inside, over_room, le-ltb (of_five (cut_at pot)) red u))
-        (g
-        ∙ (λ i. kw_five (λ j. ahead_at i j -ℤ pos (cut_at (f i) j)))
-        ∙ (λ i. kw_five (λ j. day_ahead a j -ℤ pos (share (pots_at i) (red_at i) j)))
-        ∙ sym (ap (λ limit. kw_five (reduced_by a v limit)) h))
+    shared u f g = grind (arith, kept, inside, over_room, le-ltb, ahead_at, pots_at, red_at)

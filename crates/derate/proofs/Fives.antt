@@ -1,5 +1,5 @@
 -- Arrays of five: filled place by place, the ranges of all five, and the parts and shares of a reduction in them.
-use mathlib.Core.Path.{◌≡◌, refl, ◌∙◌, ap}
+use mathlib.Core.Path.{◌≡◌, refl, ap}
 use mathlib.Core.Bool.{true}
 use mathlib.Core.List.{List, [], ◌∷◌}
 use Prim.Native.Nat.{ℕ, zero, suc, ◌<◌, ◌≤◌}
@@ -19,7 +19,7 @@ use Rattle.tariff.proofs.Ranges.{power_within}
 use Rattle.tariff.proofs.Ranks.{five, at_five}
 use Rattle.tariff.proofs.Shares.{floor_bound, floors_left, share_bound}
 use Rattle.derate.specs.declared.cuts.Cut.{Cut}
-use Rattle.derate.specs.Five.{cut, kw_five, cut_five, kw_at, cut_at, Close, SmallFive}
+use Rattle.derate.specs.Five.{kw_five, cut_five, kw_at, cut_at, Close, SmallFive}
 use Rattle.derate.specs.Derated.{all_powers}
 
 -- ---- what stands at each of five places
@@ -28,13 +28,13 @@ abbrev pub five_of : {A : Type 0} → (ℕ → A) → List A
 five_of f = f 0 ∷ f 1 ∷ f 2 ∷ f 3 ∷ f 4 ∷ []
 
 pub fives_same : {A : Type 0} (f g : ℕ → A) → ((k : ℕ) → k < 5 → f k ≡ g k) → five_of f ≡ five_of g
-fives_same f g h = let e = five (λ k. f k ≡ g k) h in λ i. e.0 i ∷ e.1 i ∷ e.2 i ∷ e.3 i ∷ e.4 i ∷ []
+fives_same f g h = grind (arith, five)
 
 pub five_set : {A : Type 0} (f : ℕ → A) (r : A) (j : ℕ) → j < 5 → set (five_of f) j r ≡ five_of (λ k. if eqb k j then r else f k)
-five_set f r = at_five (λ j. set (five_of f) j r ≡ five_of (λ k. if eqb k j then r else f k)) (refl, refl, refl, refl, refl)
+five_set f r = grind (arith, at_five)
 
 pub five_at : {A : Type 0} (f : ℕ → A) (nothing : A) (j : ℕ) → j < 5 → get_or (five_of f) j nothing ≡ f j
-five_at f nothing = at_five (λ j. get_or (five_of f) j nothing ≡ f j) (refl, refl, refl, refl, refl)
+five_at f nothing = grind (arith, at_five)
 
 pub five_long : {A : Type 0} (nothing : A) (l : List A) → length l ≡ 5 → l ≡ five_of (λ k. get_or l k nothing)
 five_long nothing (a ∷ b ∷ c ∷ d ∷ e ∷ []) h = refl
@@ -48,10 +48,10 @@ five_long nothing (a ∷ b ∷ c ∷ d ∷ e ∷ f ∷ l) h = absurd (omega arit
 -- ---- an array known place by place
 
 pub cuts_same : {l : List Cut} (f : ℕ → ℕ) → length l ≡ 5 → ((j : ℕ) → j < 5 → cut_at l j ≡ f j) → l ≡ cut_five f
-cuts_same {l} f long h = five_long (cut 0) l long ∙ fives_same _ _ (λ j u. ap cut (h j u))
+cuts_same {l} f long h = grind (arith, five_long, fives_same)
 
 pub kws_made : (l : List Kw) (p q r s t : ℤ) → length l ≡ 5 → kw_at l 0 ≡ p → kw_at l 1 ≡ q → kw_at l 2 ≡ r → kw_at l 3 ≡ s → kw_at l 4 ≡ t → l ≡ kw p ∷ kw q ∷ kw r ∷ kw s ∷ kw t ∷ []
-kws_made l p q r s t long e₀ e₁ e₂ e₃ e₄ = five_long (kw (pos 0)) l long ∙ (λ i. kw (e₀ i) ∷ kw (e₁ i) ∷ kw (e₂ i) ∷ kw (e₃ i) ∷ kw (e₄ i) ∷ [])
+kws_made l p q r s t long e₀ e₁ e₂ e₃ e₄ = grind (arith, five_long)
 
 -- ---- what stands at any place, where nothing stands past the fifth
 
@@ -67,10 +67,10 @@ by_place f g p q r s t h = λ i j. at j i
     at (suc (suc (suc (suc (suc k))))) = h k
 
 pub cuts_back : (f : ℕ → ℕ) → ((k : ℕ) → 0 ≡ f (suc (suc (suc (suc (suc k)))))) → cut_at (cut_five f) ≡ f
-cuts_back f h = by_place (cut_at (cut_five f)) f refl refl refl refl refl h
+cuts_back f h = grind (arith, by_place)
 
 pub kws_back : (f : ℕ → ℤ) → ((k : ℕ) → pos 0 ≡ f (suc (suc (suc (suc (suc k)))))) → kw_at (kw_five f) ≡ f
-kws_back f h = by_place (kw_at (kw_five f)) f refl refl refl refl refl h
+kws_back f h = grind (arith, by_place)
 
 -- ---- the ranges of all five
 
@@ -90,18 +90,16 @@ pub close_if : (l : List Kw) → all_powers l ≡ true → Close l
 close_if l e = record { close = λ j u. power_at l e j }
 
 pub gap_small : (d live : List Kw) (j : ℕ) → Close d → Close live → j < 5 → over (kw_at d j -ℤ kw_at live j) ≤ 4000000
-gap_small d live j cd cl u = (within_less (cd.close j u) (cl.close j u)).above
+gap_small d live j cd cl u = grind (arith, within_less)
 
 -- ---- the shares of a reduction that has room
 
 module _ (pot : List Cut) (red : ℕ) where
   pub shares_small : SmallFive pot → red ≤ of_five (cut_at pot) → {l : List Cut} → l ≡ cut_five (share (cut_at pot) red) → SmallFive l
-  shares_small small fits e =
-      rw e (smalls (share (cut_at pot) red) (λ j u. omega (arith, share_bound (cut_at pot) red fits j, small.small j u)))
+  shares_small small fits e = grind (arith, smalls, share_bound)
 
   pub rounded_small : SmallFive pot → red ≤ of_five (cut_at pot) → {rounded : List Cut} → rounded ≡ cut_five (floor_of (cut_at pot) red) → SmallFive rounded
-  rounded_small small fits e =
-      rw e (smalls (floor_of (cut_at pot) red) (λ j u. omega (arith, floor_bound (cut_at pot) red fits j, small.small j u)))
+  rounded_small small fits e = grind (arith, smalls, floor_bound)
 
   pub rounded_within : red ≤ of_five (cut_at pot) → {rounded : List Cut} → rounded ≡ cut_five (floor_of (cut_at pot) red) → {sum : ℕ} → sum ≡ of_five (cut_at rounded) → sum ≤ red
   rounded_within fits e h = omega (arith, ap (λ l. of_five (cut_at l)) e, floors_left (cut_at pot) red fits)

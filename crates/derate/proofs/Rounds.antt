@@ -38,7 +38,7 @@ handed_none rounded rem long =
 
 module _ {rounded rem shares : List Cut} {served : List Bool} {rounds : ℕ} (o : Handed rounded rem shares served rounds) where
   as_told : (j : ℕ) → j < 5 → served_at served j ≡ served_in (cut_at rem) rounds j
-  as_told j u = ap (λ l. served_at l j) o.told ∙ five_at (served_in (cut_at rem) rounds) false j u
+  as_told j u = grind (arith, five_at)
 
   -- one of five is left for a round more
   pub handed_waits : rounds ≤ 4 → of_five (λ j. one (served_at served j)) < 5
@@ -55,9 +55,7 @@ module _ {rounded rem shares : List Cut} {served : List Bool} {rounds : ℕ} (o 
 
     -- who is served next has what the rounding gave it
     next_share : cut_at shares next ≡ cut_at rounded next
-    next_share =
-        ap (λ l. cut_at l next) o.shared ∙ ap (λ c. c.0) (five_at (λ j. cut (share_after rounded rem rounds j)) (cut 0) next u)
-        ∙ omega (arith, ap one (largest_waits (cut_at rem) (served_in (cut_at rem) rounds) next largest))
+    next_share = grind (arith, five_at, largest_waits, largest)
 
     pub handed_more : {c : Cut} → c.0 ≡ cut_at shares next + 1 → Handed rounded rem (set shares next c) (set served next true) (rounds + 1)
     handed_more {c} e =
@@ -94,7 +92,4 @@ module _ (pot : ℕ → ℕ) (red : ℕ) (fits : red ≤ of_five pot) {rounded :
       → l ≡ cut_five (share_after rounded rem left)
       → l ≡ cut_five (share pot red)
   unfolding share
-  shares_are {rem} f q =
-      q
-      ∙ fives_same _ _ (λ j u. ap (λ t. cut (cut_at rounded j + one t)) (rounds_are_ranks (cut_at rem) left j (omega (arith, left_few)) u))
-      ∙ rw (left_is, e, f)
+  shares_are {rem} f q = grind (arith, fives_same, rounds_are_ranks, left_few, left_is)

@@ -1,10 +1,10 @@
 -- The search for the largest remainder not yet served, place by place.
 use mathlib.Core.Path.{◌≡◌, refl, sym, ◌∙◌, ap}
-use mathlib.Core.Bool.{Bool, true, false, not, ◌||◌}
+use mathlib.Core.Bool.{Bool, true, false}
 use Prim.Native.Nat.{ℕ, ◌+◌, ◌*◌, ◌<◌, ◌≤◌}
 use native.Mathlib.Omega.{arith}
 use Rattle.exact.proofs.Parts.{by_test}
-use Rattle.tariff.specs.Derate.{of_five, one, is_before}
+use Rattle.tariff.specs.Derate.{of_five, one}
 use Rattle.tariff.specs.Rounds.{is_largest}
 use Rattle.tariff.proofs.Ranks.{five_same, not_before}
 use Rattle.tariff.proofs.Rounds.{yields, is_largest_lem}
@@ -29,8 +29,4 @@ module _ (rem : ℕ → ℕ) (served : ℕ → Bool) where
       all e = omega (arith, five_same (λ k. one (served k)) (λ k. 1) (λ k v. ap one (by_test (served k) (λ t. t ≡ true) (λ w. refl) (λ w. sym (o.waits k (omega arith) w) ∙ e))))
 
       first : (i : ℕ) → i < 5 → yields rem served found i ≡ true
-      first i v =
-          by_test (served i)
-          (λ t. (t || not (is_before rem i found)) ≡ true)
-          (λ w. refl)
-          (λ w. ap not ((not_before rem i found v inside).1 (o.leads i (omega arith) w)))
+      first i v = grind (arith, not_before, inside)

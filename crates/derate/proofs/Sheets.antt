@@ -1,15 +1,15 @@
 -- The figures of a day sheet are in range, and the answer is then document 01's derate: it exceeds the room, or the schedules are reduced.
+use native.Mathlib.Omega.{arith}
 use Rattle.tariff.specs.Units.{MaybeKw}
 use Rattle.std.specs.Prelude.{None, Some}
 use mathlib.Core.Path.{◌≡◌, refl}
 use mathlib.Core.Bool.{true, false}
 use mathlib.Core.List.{List}
 use Prim.Native.Nat.{ℕ, ◌<◌}
-use lib.IntN.{ℤ, pos, neg_ℤ}
-use lib.Signed.{le_z}
+use lib.IntN.{ℤ}
 use Rattle.exact.specs.Whole.{Within}
 use Rattle.exact.proofs.Apart.{impossible}
-use Rattle.exact.proofs.Parts.{arithℤ, by_test}
+use Rattle.exact.proofs.Parts.{arithℤ}
 use Rattle.exact.proofs.Tests.{and_both}
 use Rattle.tariff.specs.declared.Kw.{Kw}
 use Rattle.tariff.specs.declared.DayAhead.{DayAhead}
@@ -23,10 +23,10 @@ use Rattle.derate.specs.Five.{kw_five}
 use Rattle.derate.specs.Derated.{are_powers, deratable_under, deratable, derate_of}
 
 is_power_lem : {z : ℤ} → Within 2000000 z → is_power z ≡ true
-is_power_lem {z} w = and_both (le_z (neg_ℤ (pos 2000000)) z) (le_z z (pos 2000000)) (omega arithℤ) (omega arithℤ)
+is_power_lem {z} w = grind (arith, and_both, arithℤ)
 
 are_powers_lem : (f : ℕ → ℤ) → ((j : ℕ) → j < 5 → Within 2000000 (f j)) → are_powers f ≡ true
-are_powers_lem f h = all_of (λ j. is_power (f j)) 5 (λ j u. is_power_lem (h j u))
+are_powers_lem f h = grind (arith, all_of, is_power_lem)
 
 module _ (a : DayAhead) (v : Interval) (ea : ahead_in_range a ≡ true) (ev : interval_in_range v ≡ true) where
   under : (limit : MaybeKw) → uol_in_range limit ≡ true → deratable_under a v limit ≡ true
@@ -39,12 +39,8 @@ module _ (a : DayAhead) (v : Interval) (ea : ahead_in_range a ≡ true) (ev : in
 
   pub sheet_exceeds : None ≡ derate_of a v → exceeds_room a v ≡ true
   unfolding derate_of
-  sheet_exceeds e = by_test (exceeds_room a v) (λ t. t ≡ true) (λ h. refl) (λ h. let kept : derate_of a v ≡ Some (kw_five (reduced a v)) = rw (sheet_deratable, h) in impossible cc)
+  sheet_exceeds e = grind (arith, sheet_deratable, impossible)
 
   pub sheet_reduced : {q : List Kw} → Some q ≡ derate_of a v → (exceeds_room a v ≡ false) × (q ≡ kw_five (reduced a v))
   unfolding derate_of
-  sheet_reduced {q} e =
-      by_test (exceeds_room a v)
-      (λ t. (t ≡ false) × (q ≡ kw_five (reduced a v)))
-      (λ h. let refused : derate_of a v ≡ None = rw (sheet_deratable, h) in impossible cc)
-      (λ h. let kept : derate_of a v ≡ Some (kw_five (reduced a v)) = rw (sheet_deratable, h) in (refl, cc))
+  sheet_reduced {q} e = grind (arith, sheet_deratable, impossible)

@@ -2,21 +2,21 @@
 use mathlib.Core.Path.{sym, ◌∙◌, ap}
 use Rattle.derate.specs.declared.cuts.Cut.{Cut}
 use Rattle.derate.specs.declared.five.Cuts.{Cuts}
-use Rattle.derate.proofs.Derates.{derated_none, ahead_out, live_out, limit_out, exceeded, shared}
+use Rattle.derate.proofs.Derates.{derated_none, out, exceeded, shared}
 use Rattle.derate.proofs.derate_of.Goals as goal
 
 pub returns-in_default : goal.returns-in_default
 returns-in_default c = derated_none c.args.a c.args.v c.in_default.is
 
 pub returns-in_err-das : goal.returns-in_err-das
-returns-in_err-das c = c.from_residual.ensures ∙ ahead_out c.args.a c.args.v c.in-Some.is c.in_err-das.ensures
+returns-in_err-das c = c.from_residual.ensures ∙ out c.args.a c.args.v c.in-Some.is (rw c.in_err-das.ensures)
 
 pub returns-in_err-rts : goal.returns-in_err-rts
-returns-in_err-rts c = c.from_residual-in_err-rts.ensures ∙ live_out c.args.a c.args.v c.in-Some.is c.in_ok-das.ensures.0 c.in_err-rts.ensures
+returns-in_err-rts c = c.from_residual-in_err-rts.ensures ∙ out c.args.a c.args.v c.in-Some.is (rw (c.in_ok-das.ensures.0, c.in_err-rts.ensures))
 
 pub returns-then-not-is_power : goal.returns-then-not-is_power
 returns-then-not-is_power c =
-    limit_out c.args.a c.args.v c.in-Some.is c.in_ok-das.ensures.0 c.in_ok-rts.ensures.0 (sym c.is_power.ensures ∙ c.if-not-is_power.true)
+    out c.args.a c.args.v c.in-Some.is (rw (c.in_ok-das.ensures.0, c.in_ok-rts.ensures.0, ← c.is_power.ensures) c.if-not-is_power.true)
 
 pub returns-in_err-red : goal.returns-in_err-red
 returns-in_err-red c =
