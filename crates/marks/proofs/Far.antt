@@ -1,5 +1,6 @@
 -- A mark acts in its own hour and at most two before and after along the joined days, and x5 and x6 act with `rtc` alone.
-use mathlib.Core.Path.{◌≡◌, refl, sym, ◌∙◌, ap}
+use Rattle.std.proofs.lemmas.Grind.{common_steps}
+use mathlib.Core.Path.{◌≡◌, refl, ◌∙◌, ap}
 use mathlib.Core.Logic.{◌≢◌}
 use mathlib.Core.Bool.{false, ◌||◌, false≢true}
 use Prim.Native.Nat.{ℕ, ◌+◌, ◌<◌, ◌≤◌}
@@ -52,14 +53,7 @@ module _ (before after : MarkedDay) (hours : ℕ) (m n : Marks) (g : ℕ) (alike
 
   joined_same : (k : ℕ) → k < hours_of_all before (day_of hours m) after → k ≢ before.hours + g
       → joined before (day_of hours m) after k ≡ joined before (day_of hours n) after k
-  joined_same k u s =
-      by_day before (day_of hours m) after k u
-      (λ v. of_before before (day_of hours m) after k v ∙ sym (of_before before (day_of hours n) after k v))
-      (λ j e v.
-      of_own before (day_of hours m) after k j e v
-      ∙ reach_same j (λ t. s (e ∙ ap (λ (i : ℕ). before.hours + i) t))
-      ∙ sym (of_own before (day_of hours n) after k j e v))
-      (λ j e v. of_after before (day_of hours m) after k j e ∙ sym (of_after before (day_of hours n) after k j e))
+  joined_same k u s = grind (arith, common_steps, by_day, of_before, of_own, reach_same, of_after)
 
   but_own : JoinedAlikeBut (before.hours + g) before (day_of hours m) after before (day_of hours n) after
   but_own = record {

@@ -1,4 +1,5 @@
 -- The joined days, hour by hour: which day an hour is of, and what reaches an hour of the middle one.
+use Rattle.std.proofs.lemmas.Grind.{common_steps}
 use mathlib.Core.Path.{◌≡◌, sym, ◌∙◌}
 use mathlib.Core.Bool.{true}
 use Prim.Native.Nat.{ℕ, ◌+◌, ◌-◌, ◌<◌, ◌≤◌}
@@ -20,14 +21,10 @@ module _ (before own after : MarkedDay) where
   of_before k u = rw (lt-ltb k before.hours u)
 
   pub of_own : (k j : ℕ) → k ≡ before.hours + j → j < own.hours → joined before own after k ≡ reaches own.marks j
-  of_own k j e u =
-      let at : k - before.hours ≡ j = omega arith in
-      rw (le-ltb k before.hours (omega arith), lt-ltb k (before.hours + own.hours) (omega arith), at)
+  of_own k j e u = grind (arith, common_steps, le-ltb, lt-ltb)
 
   pub of_after : (k j : ℕ) → k ≡ before.hours + own.hours + j → joined before own after k ≡ reaches after.marks j
-  of_after k j e =
-      let at : k - (before.hours + own.hours) ≡ j = omega arith in
-      rw (le-ltb k before.hours (omega arith), le-ltb k (before.hours + own.hours) (omega arith), at)
+  of_after k j e = grind (arith, common_steps, le-ltb)
 
   pub by_day : {P : Type 0} (k : ℕ)
       → k < hours_of_all

@@ -1,4 +1,5 @@
 -- Days of the same counts whose marks reach alike: when they do, and that they then reach the same hours.
+use Rattle.std.proofs.lemmas.Grind.{common_steps}
 use mathlib.Core.Path.{◌≡◌, refl, sym, ◌∙◌, ap}
 use mathlib.Core.Bool.{false, ◌&&◌, ◌||◌, or-false}
 use Prim.Native.Nat.{ℕ, ◌<◌}
@@ -30,11 +31,7 @@ reach_without_rtc hours m n off off' e = record {
 
 module _ (before own after before' own' after' : MarkedDay) (b : ReachAlike before before') (o : ReachAlike own own') (a : ReachAlike after after') where
   joined_alike : (k : ℕ) → k < hours_of_all before own after → joined before own after k ≡ joined before' own' after' k
-  joined_alike k u =
-      by_day before own after k u
-      (λ v. of_before before own after k v ∙ b.reach k v ∙ sym (of_before before' own' after' k (omega arith)))
-      (λ j e v. of_own before own after k j e v ∙ o.reach j v ∙ sym (of_own before' own' after' k j (omega arith) (omega arith)))
-      (λ j e v. of_after before own after k j e ∙ a.reach j v ∙ sym (of_after before' own' after' k j (omega arith)))
+  joined_alike k u = grind (arith, common_steps, by_day, of_before, of_own, of_after)
 
   pub reached_alike : (h : ℕ) → reached before own after h ≡ reached before' own' after' h
   reached_alike h = grind (arith, reached_same, joined_alike)
