@@ -1,4 +1,3 @@
 -- Laws that the proofs of the crate's functions and of its callers' cite, and that the contract has one reply (Unique).
 pub mod Values
-pub mod Blocks
 pub mod Unique

@@ -1,20 +1,16 @@
 -- An hour block: line 1, the two curve lines, and up to 30 interval lines. FORM is at the first line that is not as printed.
 use Rattle.text.specs.Text.{Next}
-use Rattle.std.specs.Prelude.{List, ℕ, ℤ, pos, replicate}
+use Rattle.std.specs.Prelude.{List, ℕ, ℤ, Result}
 use Rattle.tariff.specs.declared.Curve.{Curve}
-use Rattle.tariff.specs.declared.DayAhead.{DayAhead}
 use Rattle.tariff.specs.declared.Interval.{Interval}
 use Rattle.tariff.specs.declared.Hour.{Hour}
-use Rattle.tariff.specs.Units.{kw, price}
 use Rattle.tariff.specs.Hour.{blank}
 use Rattle.keys.specs.Keys.{AHEAD, INTERVAL}
 use Rattle.lines.specs.Series.{Series}
-use Rattle.curves.specs.CurveLine.{no_curve}
 use Rattle.curves.specs.Frame as frame
-use Rattle.curves.specs.Frame.{Kind, Framed, framed_at}
+use Rattle.curves.specs.Frame.{Kind, Framed, framed_at, framed_read}
 pub use Rattle.curves.specs.Frame.{broken, read}
 use Rattle.records.specs.Records.{ahead_of, interval_of}
-use Rattle.blocks.specs.declared.BlockRead.{BlockRead}
 
 -- ---- a generator's block: ten fields in line 1, twenty in an interval line
 
@@ -74,25 +70,7 @@ after_line2 = frame.after_line2 generator
 abbrev pub after_line1 : Next → List ℕ → ℕ → Block
 after_line1 = frame.after_line1 generator
 
--- ---- what the code gives back: the first line that is not as printed, or 0 and the record. No record goes with a broken block
+-- ---- what the code gives back: the record, or the first line that is not as printed
 
-abbrev pub no_ahead : DayAhead
-no_ahead =
-    record {
-      en = kw (pos 0);
-      reg = kw (pos 0);
-      r1 = kw (pos 0);
-      r2 = kw (pos 0);
-      r3 = kw (pos 0);
-      breg = price (pos 0);
-      b1 = price (pos 0);
-      b2 = price (pos 0);
-      b3 = price (pos 0);
-    }
-
-abbrev pub no_hour : Hour
-no_hour = record { hour = pos 0; ahead = no_ahead; da = no_curve; rt = no_curve; n = 0; iv = replicate 30 blank }
-
-abbrev pub hour_read_of : Block → BlockRead
-hour_read_of (broken line) = record { broken = line; hour = no_hour }
-hour_read_of (read h) = record { broken = 0; hour = h }
+abbrev pub hour_read_of : Block → Result Hour ℕ
+hour_read_of = framed_read

@@ -1,3 +1,3 @@
 -- An hour block: its lines, and the record that it is read to.
 pub mod Block
-pub mod Told
+pub mod Laws

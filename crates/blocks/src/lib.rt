@@ -8,17 +8,12 @@ use tariff::Hour;
 
 mod block;
 mod reader;
-mod series;
 
-// A block: `broken` is the first line that is not as printed, or 0 where `hour` is its record.
-#[derive(Clone, Copy)]
-pub struct BlockRead {
-    pub broken: usize,
-    pub hour: Hour,
-}
+pub use block::Generator;
 
-// The hour block that begins at the first byte, read up to its first empty line or the text's end. Any bytes are read.
-pub fn read_hour(block: &[u8]) -> BlockRead
+// The hour block that begins at the first byte, read up to its first empty line or the text's end; or its first line that is not as printed.
+// Any bytes are read.
+pub fn read_hour(block: &[u8]) -> Result<Hour, usize>
     ensures { result ≡ hour_read_of (block_of block.now) }
 {
     reader::hour_at(block, 0)

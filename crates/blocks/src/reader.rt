@@ -3,7 +3,8 @@
 ghost use Rattle.std.specs.Prelude.{◌≡◌};
 ghost use Rattle.blocks.specs.Block.{block_at, hour_read_of};
 
-use crate::{BlockRead, block};
+use crate::Generator;
+use tariff::Hour;
 
 #[derive(Clone, Copy)]
 pub struct Reader<'a> {
@@ -19,14 +20,14 @@ pub fn open<'a>(block: &'a [u8], place: usize) -> Reader<'a>
 }
 
 // The hour block that begins at the reader's place.
-pub fn hour<'a>(r: Reader<'a>) -> BlockRead
+pub fn hour<'a>(r: Reader<'a>) -> Result<Hour, usize>
     ensures { result ≡ hour_read_of (block_at r.entry.block.now r.entry.place) }
 {
-    block::read_block(r.block, r.place)
+    curves::block_at::<Generator>(r.block, r.place)
 }
 
 // The same for a caller that has a slice and a place, and holds no reader.
-pub fn hour_at(block: &[u8], place: usize) -> BlockRead
+pub fn hour_at(block: &[u8], place: usize) -> Result<Hour, usize>
     ensures { result ≡ hour_read_of (block_at block.now place) }
 {
     hour(open(block, place))

@@ -1,23 +1,26 @@
 -- A block of any kind, line by line as the code reads it: its first line that is not as printed, or its record.
 use Rattle.text.specs.Text.{Next}
-use Rattle.std.specs.Prelude.{None, Some}
+use Rattle.std.specs.Prelude.{None, Some, Result, Ok, Err}
 use mathlib.Core.Path.{◌≡◌, refl, sym, ap, ◌∙◌}
 use mathlib.Core.List.{List}
 use mathlib.Core.Logic.{◌↔◌}
 use Prim.Native.Nat.{ℕ}
-use native.Mathlib.Omega.{arith}
-use borrow.Author.Tests.{eq-eqb, ne_eqb}
-use lib.IntN.{ℤ}
+use lib.IntN.{ℤ, pos}
+use lib.ListN.{get_or}
 use Rattle.exact.proofs.Apart.{impossible}
 use Rattle.tariff.specs.declared.Curve.{Curve}
 use Rattle.tariff.specs.Reply.{Reply, refused, FORM}
 use Rattle.keys.specs.Keys.{DA, RT}
-use Rattle.lines.specs.Line.{value_in}
+use Rattle.lines.specs.declared.Fields.{Fields}
+use Rattle.lines.specs.Line.{fields_at, and_then, value_in, line_feed}
+use Rattle.lines.proofs.Lines.{FieldsRead, fields_read, line_is}
 use Rattle.lines.specs.Series.{Series, line_count, broken_line}
-use Rattle.lines.specs.Told.{SeriesFound}
-use Rattle.lines.proofs.Series.{series_line}
-use Rattle.curves.specs.CurveLine.{curve_line, curve_said}
-use Rattle.curves.specs.Frame.{Kind, first_line, interval_line, interval_said, interval_lines, Framed, broken, read, with_series, after_line3, after_line2, after_line1, framed_at}
+use Rattle.records.specs.declared.series.Series as declared
+use Rattle.records.specs.Laws.{LineLaws}
+use Rattle.records.specs.Told.{series_read, series_read_at}
+use Rattle.curves.specs.CurveLine.{curve_read_at}
+use Rattle.curves.specs.Frame.{Kind, first_line, interval_at, interval_lines, Framed, broken, read, with_series, framed_at, framed_read}
+use Rattle.curves.proofs.CurveLines.{not_told, curve_told}
 
 pub never_read : {H : Type 0} {line : ℕ} {h : H} → ◌≡◌ {A = Framed H} (broken line) (read h) → ⊥
 never_read e = impossible cc
@@ -33,77 +36,61 @@ form_when_broken {H} to b line form never = (go b never, λ e. ap to e ∙ form 
     go (broken l) never e = let same = sym (form l) ∙ e in ap broken (cc)
     go (read h) never e = absurd (never h refl e)
 
-module _ {I H : Type 0} (k : Kind I H) where
-  -- ---- the lines, one by one: `tell` is what the code gives back
+-- ---- a block, line by line as the code reads it
 
-  module _ {R : Type 0} (tell : Framed H → R) (s : List ℕ) (from : ℕ) where
-    told : {line : ℕ} {r : R} → r ≡ tell (broken line) → framed_at k s from ≡ broken line → r ≡ tell (framed_at k s from)
-    told e b = e ∙ sym (ap tell b)
+module _ {I H : Type 0} (k : Kind I H) (s : List ℕ) (from : ℕ) where
+  abbrev all : Result H ℕ
+  all = framed_read (framed_at k s from)
 
-    pub frame_line1 : (r : R) → first_line k s from ≡ None → r ≡ tell (broken 1) → r ≡ tell (framed_at k s from)
-    unfolding framed_at
-    frame_line1 r f e = told e (rw f)
+  -- line 1 as its fields are read
+  module _ {r : Fields} (q : r ≡ fields_at k.ahead k.ahead_fields s from) {A : Type 0} {of : (ℕ → ℤ) → A} (laws : LineLaws k.ahead k.ahead_fields of) where
+    told : FieldsRead k.ahead k.ahead_fields s from r
+    told = fields_read k.ahead k.ahead_fields s from r laws.is_a_line q
 
-    module _ (p1 : ℕ) (e1 : first_line k s from ≡ Some p1) where
-      pub frame_line2 : (r : R) → curve_line DA s p1 ≡ None → r ≡ tell (broken 2) → r ≡ tell (framed_at k s from)
-      unfolding framed_at
-      frame_line2 r f e = told e (rw (e1, f))
+    pub line1_is : {end : Next} → end ≡ and_then r.next (line_feed s) → first_line k s from ≡ end
+    line1_is f = line_is k.ahead k.ahead_fields s from r.next _ told.next f
 
-      module _ (p2 : ℕ) (e2 : curve_line DA s p1 ≡ Some p2) where
-        pub frame_line3 : (r : R) → curve_line RT s p2 ≡ None → r ≡ tell (broken 3) → r ≡ tell (framed_at k s from)
-        unfolding framed_at
-        frame_line3 r f e = told e (rw (e1, e2, f))
+    pub line1_said : of (λ n. get_or r.values n (pos 0)) ≡ of (value_in k.ahead s from)
+    line1_said = laws.reads _ _ told.values
 
-        module _ (p3 : ℕ) (e3 : curve_line RT s p2 ≡ Some p3) (line n : ℕ) (iv : List I)
-            (o : SeriesFound (interval_line k) 4 30 (interval_said k) k.blank s p3 line n iv) where
-          pub frame_series : (r : R) → (line ≡ 0 → ⊥) → r ≡ tell (broken line) → r ≡ tell (framed_at k s from)
-          unfolding framed_at
-          frame_series r u e = told e (rw (e1, e2, e3, ← o.told, ne_eqb line 0 u))
-
-          pub frame_read : (h : H) → line ≡ 0 → h ≡ k.hour_of (value_in k.ahead s from) (curve_said DA s p1) (curve_said RT s p2) n iv
-              → tell (read h) ≡ tell (framed_at k s from)
-          unfolding framed_at
-          frame_read h z e =
-              let same : read h ≡ framed_at k s from = rw (e1, e2, e3, ← o.told, eq-eqb line 0 z, e, o.series z) in
-              ap tell same
-
-  -- ---- lines count from 1
-
-  pub no_line_0 : (s : List ℕ) (from : ℕ) → framed_at k s from ≡ broken 0 → ⊥
+  pub frame_line1 : first_line k s from ≡ None → Err 1 ≡ all
   unfolding framed_at
-  no_line_0 s from = line1 (first_line k s from)
-    where
-      series : (v : ℕ → ℤ) (da rt : Curve) (at : ℕ) (r : Series) → (r ≡ broken_line 0 → ⊥) → with_series k v da rt s at r ≡ broken 0 → ⊥
-      series v da rt at (line_count n) never e = impossible cc
-      series v da rt at (broken_line line) never e = never (ap broken_line (cc))
+  frame_line1 e = rw e
 
-      line3 : (next : Next) (v : ℕ → ℤ) (da rt : Curve) → after_line3 k next v da rt s ≡ broken 0 → ⊥
-      line3 None v da rt e = let z : ◌≡◌ {A = ℕ} 3 0 = cc in omega arith
-      line3 (Some at) v da rt e = series v da rt at (interval_lines k s at) (series_line (interval_line k) 4 30 s at (omega arith)) e
+  module _ {p1 : ℕ} (e1 : first_line k s from ≡ Some p1) where
+    pub frame_line2 : None ≡ curve_read_at DA s p1 → Err 2 ≡ all
+    unfolding framed_at
+    frame_line2 e = rw (e1, not_told _ _ e)
 
-      line2 : (next : Next) (v : ℕ → ℤ) (da : Curve) → after_line2 k next v da s ≡ broken 0 → ⊥
-      line2 None v da e = let z : ◌≡◌ {A = ℕ} 2 0 = cc in omega arith
-      line2 (Some at) v da e = line3 (curve_line RT s at) v da (curve_said RT s at) e
+    module _ {p2 : ℕ} {da : Curve} (e2 : Some (da, p2) ≡ curve_read_at DA s p1) where
+      pub frame_line3 : None ≡ curve_read_at RT s p2 → Err 3 ≡ all
+      unfolding framed_at
+      frame_line3 e = rw (e1, (curve_told _ _ e2).0, not_told _ _ e)
 
-      line1 : (next : Next) → after_line1 k next s from ≡ broken 0 → ⊥
-      line1 None e = let z : ◌≡◌ {A = ℕ} 1 0 = cc in omega arith
-      line1 (Some at) e = line2 (curve_line DA s at) (value_in k.ahead s from) (curve_said DA s at) e
+      module _ {p3 : ℕ} {rt : Curve} (e3 : Some (rt, p3) ≡ curve_read_at RT s p2) where
+        -- the record of the intervals, or the line of them that is not as printed
+        abbrev with : Result (declared.Series I) ℕ → Result H ℕ
+        with (Ok iv) = Ok (k.hour_of (value_in k.ahead s from) da rt iv.n iv.iv)
+        with (Err line) = Err line
 
-  -- ---- what is given back says what the block is: `line` is its first line that is not as printed, or 0 where `hour` is its record
+        counted : (r : Series) → with (series_read (interval_at k s p3) k.blank r) ≡ framed_read (with_series k (value_in k.ahead s from) da rt s p3 r)
+        counted (line_count n) = refl
+        counted (broken_line line) = refl
 
-  module _ {R : Type 0} (tell : Framed H → R) (line : R → ℕ) (hour : R → H) (its-line : (l : ℕ) → line (tell (broken l)) ≡ l)
-      (no_line : (h : H) → line (tell (read h)) ≡ 0) (its-hour : (h : H) → hour (tell (read h)) ≡ h) where
-    told_broken : (b : Framed H) (r : R) → r ≡ tell b → (line r ≡ 0 → ⊥) → b ≡ broken (line r)
-    told_broken (broken l) r e u = ap broken (sym (ap line e ∙ its-line l))
-    told_broken (read h) r e u = absurd (u (ap line e ∙ no_line h))
+        pub frame_series : (r : Result (declared.Series I) ℕ) → r ≡ series_read_at k.interval k.interval_fields k.interval_of k.blank 4 s p3 → with r ≡ all
+        unfolding framed_at
+        frame_series r e =
+            let da = curve_told _ _ e2 in
+            let rt = curve_told _ _ e3 in
+            ap with e ∙ counted (interval_lines k s p3) ∙ rw (e1, da.0, da.1, rt.0, rt.1)
 
-    told_read : (b : Framed H) (r : R) → r ≡ tell b → (b ≡ broken 0 → ⊥) → line r ≡ 0 → b ≡ read (hour r)
-    told_read (broken l) r e never z = absurd (never (ap broken (sym (ap line e ∙ its-line l) ∙ z)))
-    told_read (read h) r e never z = ap read (sym (ap hour e ∙ its-hour h))
+-- ---- what is given back says what the block is
 
-    module _ (s : List ℕ) (from : ℕ) (r : R) (e : r ≡ tell (framed_at k s from)) where
-      pub frame_broken : (line r ≡ 0 → ⊥) → framed_at k s from ≡ broken (line r)
-      frame_broken = told_broken (framed_at k s from) r e
+module _ {H : Type 0} where
+  pub told_broken : (b : Framed H) {line : ℕ} → Err line ≡ framed_read b → b ≡ broken line
+  told_broken (broken line) e = ap broken (cc)
+  told_broken (read h) e = impossible cc
 
-      pub frame_is : line r ≡ 0 → framed_at k s from ≡ read (hour r)
-      frame_is = told_read (framed_at k s from) r e (no_line_0 s from)
+  pub told_read : (b : Framed H) {h : H} → Ok h ≡ framed_read b → b ≡ read h
+  told_read (broken line) e = impossible cc
+  told_read (read h) e = ap read (cc)

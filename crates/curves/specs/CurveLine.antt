@@ -1,16 +1,15 @@
 -- A curve line: start, n, and n pairs. Another n than 0 to 12 is not as printed.
 use Rattle.text.specs.Text.{Next}
-use Rattle.std.specs.Prelude.{if◌then◌else◌, Bool, List, ℕ, ℤ, pos, replicate, None, Some}
+use Rattle.std.specs.Prelude.{if◌then◌else◌, List, ℕ, ℤ, pos, Option, None, Some}
 use Rattle.exact.specs.Whole.{over}
 use Rattle.tariff.specs.declared.Kw.{Kw}
 use Rattle.tariff.specs.declared.Price.{Price}
 use Rattle.tariff.specs.declared.Curve.{Curve}
 use Rattle.tariff.specs.Units.{kw, price}
 use Rattle.tariff.specs.Sheet.{lies_in}
-use Rattle.keys.specs.Keys.{DA, RT, PAIR}
+use Rattle.keys.specs.Keys.{PAIR}
 use Rattle.lines.specs.Line.{and_then, after_fields, value_in, line_feed, filled}
 use Rattle.lines.specs.Series.{series_place, series_in}
-use Rattle.curves.specs.declared.CurveRead.{CurveRead}
 
 -- ---- the pairs, one after the other from a place on
 
@@ -55,24 +54,11 @@ curve_from start n s None = record { start = kw start; n = 0; to = filled 0 12 (
 unfoldable pub curve_said : (first : ℕ) → List ℕ → ℕ → Curve
 curve_said first s at = curve_from (value_in first s at 0) (value_in first s at 1) s (after_fields first 2 s at)
 
--- ---- what the code gives back: the place behind the line and its curve. No steps go with a line that is not as printed
+-- ---- what the code gives back: the curve and the place behind its line, or nothing where the line is not as printed
 
-abbrev pub no_curve : Curve
-no_curve = record { start = kw (pos 0); n = 0; to = replicate 12 (kw (pos 0)); at = replicate 12 (price (pos 0)) }
+abbrev pub curve_read : Next → Curve → Option (Curve × ℕ)
+curve_read (Some next) c = Some (c, next)
+curve_read None c = None
 
-abbrev pub no_line : CurveRead
-no_line = record { next = None; curve = no_curve }
-
-abbrev pub curve_read : Next → Curve → CurveRead
-curve_read (Some next) c = record { next = Some next; curve = c }
-curve_read None c = no_line
-
-abbrev pub line_read_at : (first : ℕ) → List ℕ → ℕ → CurveRead
-line_read_at first s at = curve_read (curve_line first s at) (curve_said first s at)
-
--- the first key of the real-time curve's line, or of the day-ahead curve's
-abbrev pub curve_key : (live : Bool) → ℕ
-curve_key live = if live then RT else DA
-
-abbrev pub curve_read_at : (live : Bool) → List ℕ → ℕ → CurveRead
-curve_read_at live = line_read_at (curve_key live)
+abbrev pub curve_read_at : (first : ℕ) → List ℕ → ℕ → Option (Curve × ℕ)
+curve_read_at first s at = curve_read (curve_line first s at) (curve_said first s at)

@@ -1,7 +1,7 @@
 -- The frame of an hour block, whatever the hour is of: line 1, the two curve lines, and up to 30 interval lines. FORM is at the first line that
 -- is not as printed.
 use Rattle.text.specs.Text.{Next}
-use Rattle.std.specs.Prelude.{List, ℕ, ℤ, None, Some}
+use Rattle.std.specs.Prelude.{List, ℕ, ℤ, None, Some, Result, Ok, Err}
 use Rattle.tariff.specs.declared.Curve.{Curve}
 use Rattle.keys.specs.Keys.{DA, RT}
 use Rattle.lines.specs.Line.{value_in, line_at, filled}
@@ -18,6 +18,19 @@ pub record Kind (Interval Hour : Type 0) : Type 0 where
   -- what stands past the last interval
   pub blank : Interval
   pub hour_of : (ahead : ℕ → ℤ) → (da rt : Curve) → (n : ℕ) → List Interval → Hour
+
+abbrev pub kind_of : {I H : Type 0} → (ahead ahead_fields interval interval_fields : ℕ) → ((ℕ → ℤ) → I) → I
+    → ((ℕ → ℤ) → Curve → Curve → ℕ → List I → H) → Kind I H
+kind_of ahead ahead_fields interval interval_fields interval_of blank hour_of =
+    record {
+      ahead = ahead;
+      ahead_fields = ahead_fields;
+      interval = interval;
+      interval_fields = interval_fields;
+      interval_of = interval_of;
+      blank = blank;
+      hour_of = hour_of;
+    }
 
 -- ---- its lines
 
@@ -68,3 +81,8 @@ after_line1 k (Some at) s from = after_line2 k (curve_line DA s at) (value_in k.
 -- the block that begins at a place: read up to its first empty line or the end of the text
 unfoldable pub framed_at : {I H : Type 0} → Kind I H → List ℕ → ℕ → Framed H
 framed_at k s from = after_line1 k (first_line k s from) s from
+
+-- what the code gives back
+abbrev pub framed_read : {H : Type 0} → Framed H → Result H ℕ
+framed_read (broken line) = Err line
+framed_read (read h) = Ok h

@@ -1,27 +1,25 @@
-// A curve line of an hour block into its curve, whatever the block is of. Any text and any place are taken.
+// A curve line of an hour block into its curve, and an hour block of any kind into its record. Any text and any place are taken.
 #![tactic(auto)]
 
-ghost use Rattle.std.specs.Prelude.{◌≡◌};
+ghost use Rattle.std.specs.Prelude.{◌≡◌, ◌+◌, ◌≤◌};
+ghost use Rattle.keys.specs.Keys.{KEYS};
 ghost use Rattle.curves.specs.CurveLine.{curve_read_at};
 
-use tariff::Curve;
+use tariff::{Curve, Kw};
 
+mod block;
 mod line;
 
-// The place behind a curve line, and its curve; no steps go with a line that is not as printed.
-#[derive(Clone, Copy)]
-pub struct CurveRead {
-    pub next: Option<usize>,
-    pub curve: Curve,
-}
+pub use block::{BlockKind, block_at};
 
-// The curve line at a place: that of the real-time curve where `live`, and else that of the day-ahead curve.
-pub fn curve_at(s: &[u8], at: usize, live: bool) -> CurveRead
-    ensures { result ≡ curve_read_at live s.now at }
+// The curve line at a place, from key `first` on: its curve, and the place behind it.
+pub fn curve_at(s: &[u8], at: usize, first: usize) -> Option<(Curve, usize)>
+    requires { first + 2 ≤ KEYS }
+    ensures { result ≡ curve_read_at first s.now at }
 {
-    if live {
-        line::line_from(s, at, keys::RT)
-    } else {
-        line::line_from(s, at, keys::DA)
-    }
+    let head = lines::fields_at(s, at, first, 2);
+    let pairs = head.next?;
+    let n = line::count_of(head.values[1])?;
+    let (curve, end) = line::pairs_at(s, pairs, Kw(head.values[0]), n)?;
+    Some((curve, lines::line_end(s, Some(end))?))
 }

@@ -1,17 +1,15 @@
 -- An hour block of an internal controllable line: its schedules in line 1, the two curve lines of a generator's block, and up to 30 interval
 -- lines. FORM is at the first line that is not as printed.
 use Rattle.text.specs.Text.{Next}
-use Rattle.std.specs.Prelude.{List, ℕ, pos, replicate}
+use Rattle.std.specs.Prelude.{List, ℕ, Result}
 use Rattle.tariff.specs.declared.IclInterval.{IclInterval}
 use Rattle.tariff.specs.declared.IclHour.{IclHour}
 use Rattle.tariff.specs.Units.{kw}
 use Rattle.tariff.specs.Controllable.{blank_icl}
 use Rattle.keys.specs.Keys.{ICL_HOUR, ICL_INTERVAL}
-use Rattle.curves.specs.CurveLine.{no_curve}
-use Rattle.curves.specs.Frame.{Kind, first_line, interval_line, interval_said, Framed, framed_at}
+use Rattle.curves.specs.Frame.{Kind, first_line, interval_line, interval_said, Framed, framed_at, framed_read}
 pub use Rattle.curves.specs.Frame.{broken, read}
 use Rattle.records.specs.Records.{icl_interval_of}
-use Rattle.iclblocks.specs.declared.IclRead.{IclRead}
 
 -- ---- three fields in line 1, six in an interval line
 
@@ -50,11 +48,7 @@ icl_interval_line = interval_line controllable_line
 abbrev pub icl_interval_said : List ℕ → ℕ → IclInterval
 icl_interval_said = interval_said controllable_line
 
--- ---- what the code gives back: the first line that is not as printed, or 0 and the record. No record goes with a broken block
+-- ---- what the code gives back: the record, or the first line that is not as printed
 
-abbrev pub no_icl : IclHour
-no_icl = record { hour = pos 0; dasi = kw (pos 0); dasw = kw (pos 0); da = no_curve; rt = no_curve; n = 0; iv = replicate 30 blank_icl }
-
-abbrev pub icl_read_of : IclBlock → IclRead
-icl_read_of (broken line) = record { broken = line; hour = no_icl }
-icl_read_of (read h) = record { broken = 0; hour = h }
+abbrev pub icl_read_of : IclBlock → Result IclHour ℕ
+icl_read_of = framed_read

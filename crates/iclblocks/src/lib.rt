@@ -1,83 +1,55 @@
 // The bytes of an internal controllable line's hour block into its record, line by line. Its curve lines are a generator's.
 #![tactic(auto)]
 
-ghost use Rattle.std.specs.Prelude.{◌≡◌};
-ghost use Rattle.iclblocks.specs.IclBlock.{broken, icl_block_of, icl_read_of};
+ghost use Rattle.std.specs.Prelude.{◌≡◌, pos, get_or};
+ghost use Rattle.keys.specs.Keys.{ICL_HOUR};
+ghost use Rattle.iclblocks.specs.IclBlock.{controllable_line, icl_block_of, icl_read_of};
+ghost use Rattle.iclblocks.specs.Laws.{icl_hour_laws};
 
-use tariff::{Curve, IclHour, Kw, Price};
+use curves::BlockKind;
+use records::Series;
+use tariff::{Curve, IclHour, IclInterval, Kw};
 
-mod series;
+// An internal controllable line's hour block: three fields in line 1, and six in an interval line.
+pub struct ControllableLine;
 
-// A block: `broken` is the first line that is not as printed, or 0 where `hour` is its record.
-#[derive(Clone, Copy)]
-pub struct IclRead {
-    pub broken: usize,
-    pub hour: IclHour,
-}
+impl BlockKind for ControllableLine {
+    type Interval = IclInterval;
 
-// A block whose line is not as printed: no record goes with it.
-fn broken_icl(line: usize) -> IclRead
-    ensures { result ≡ icl_read_of (broken line) }
-{
-    let flat = Curve {
-        start: Kw(0),
-        n: 0,
-        to: [Kw(0); 12],
-        at: [Price(0); 12],
-    };
-    IclRead {
-        broken: line,
-        hour: IclHour {
-            hour: 0,
-            dasi: Kw(0),
-            dasw: Kw(0),
-            da: flat,
-            rt: flat,
-            n: 0,
-            iv: [records::blank_icl(); 30],
-        },
-    }
-}
+    type Hour = IclHour;
 
-// The block that begins at the first byte, read up to its first empty line or the text's end. Any bytes are read.
-pub fn read_icl(block: &[u8]) -> IclRead
-    ensures { result ≡ icl_read_of (icl_block_of block.now) }
-{
-    let first = lines::fields_at(block, 0, keys::ICL_HOUR, 3);
-    let v = first.values;
-    let fields = first.next;
-    let Some(p1) = lines::line_end(block, fields) else {
-        return broken_icl(1);
-    };
-    let da = curves::curve_at(block, p1, false);
-    let da_next = da.next;
-    let Some(p2) = da_next else {
-        return broken_icl(2);
-    };
-    let rt = curves::curve_at(block, p2, true);
-    let rt_next = rt.next;
-    let Some(p3) = rt_next else {
-        return broken_icl(3);
-    };
-    let series = series::icl_series_at(block, p3);
-    let broken = series.broken;
-    if broken != 0 {
-        return broken_icl(broken);
-    }
-    let da_curve = da.curve;
-    let rt_curve = rt.curve;
-    let n = series.n;
-    let iv = series.iv;
-    IclRead {
-        broken: 0,
-        hour: IclHour {
-            hour: v[0],
-            dasi: Kw(v[1]),
-            dasw: Kw(v[2]),
-            da: da_curve,
-            rt: rt_curve,
+    const FIRST: usize = keys::ICL_HOUR;
+
+    const FIELDS: usize = 3;
+
+    ghost FIRST = { ICL_HOUR };
+
+    ghost FIELDS = { 3 };
+
+    ghost hour_of = { controllable_line.hour_of };
+
+    ghost laws = { icl_hour_laws };
+
+    fn hour_of(values: [i64; 20], da: Curve, rt: Curve, series: Series<IclInterval>) -> IclHour
+        ensures { result ≡ controllable_line.hour_of (λ n. get_or values n (pos 0)) da rt series.n series.iv }
+    {
+        let Series { n, iv } = series;
+        IclHour {
+            hour: values[0],
+            dasi: Kw(values[1]),
+            dasw: Kw(values[2]),
+            da,
+            rt,
             n,
             iv,
-        },
+        }
     }
+}
+
+// The block that begins at the first byte, read up to its first empty line or the text's end; or its first line that is not as printed.
+// Any bytes are read.
+pub fn read_icl(block: &[u8]) -> Result<IclHour, usize>
+    ensures { result ≡ icl_read_of (icl_block_of block.now) }
+{
+    curves::block_at::<ControllableLine>(block, 0)
 }

@@ -13,11 +13,8 @@ pub fn settle_icl_block(block: &[u8], excluded: bool, expected: Expected, row: &
     ensures reply { told result ≡ icl_reply_to (icl_block_of block.now) excluded expected (length row.old) }
     ensures row { row.new ≡ icl_row_to (icl_block_of block.now) excluded expected row.old }
 {
-    let read = iclblocks::read_icl(block);
-    let broken = read.broken;
-    if broken != 0 {
-        return Answer::Refused(Check::Form(broken));
+    match iclblocks::read_icl(block) {
+        Ok(hour) => engine::settle_icl(hour, excluded, expected, row),
+        Err(line) => Answer::Refused(Check::Form(line)),
     }
-    let hour = read.hour;
-    engine::settle_icl(hour, excluded, expected, row)
 }

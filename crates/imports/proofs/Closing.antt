@@ -23,7 +23,7 @@ use Rattle.lines.proofs.Series.{series_few}
 use Rattle.lines.proofs.SeriesShared.{each_shared, series_shared}
 use Rattle.lines.proofs.BlockEnds as ends
 use Rattle.imports.specs.Import.{curtailed_line, curtailed_said, curtailed_at, curtailed_lines, ImportBlock, broken, read, with_curtailed, after_import_line1, import_block_at}
-use Rattle.imports.proofs.Blocks.{curtailed_same}
+use Rattle.records.specs.Laws.{curtailed_laws}
 
 -- line 1 has 3 fields and at most 49 bytes, an interval line 7 and at most 113; 30 of these, and the byte at which the block closes
 module _ {s t : List ℕ} {f g : ℕ → ℕ} {In Open : ℕ → ℕ → Type 0} (o : SharedLines s t f g In Open) where
@@ -31,7 +31,7 @@ module _ {s t : List ℕ} {f g : ℕ → ℕ} {In Open : ℕ → ℕ → Type 0}
   one v w i u h = line_shared o CURTAILED refl 6 v w i u h
 
   said : (i : ℕ) → Open 113 i → curtailed_said s (f i) ≡ curtailed_said t (g i)
-  said i h = curtailed_same _ _ (λ n l. values_shared o CURTAILED refl n 113 i (omega arith) h)
+  said i h = curtailed_laws.reads _ _ (λ n l. values_shared o CURTAILED refl n 113 i (omega arith) h)
 
   with_series_lem : (v v' : ℕ → ℤ) → ((n : ℕ) → n < 3 → v n ≡ v' n) → (i : ℕ) → Open 3391 i → (r : Series) → curtailed_lines t (g i) ≡ r
       → with_curtailed v s (f i) r ≡ with_curtailed v' t (g i) r

@@ -1,95 +1,116 @@
 -- The first two lines of an import: what the code tells of them, that the place behind them is in the text, and the reply under them.
 use Rattle.text.specs.Text.{Next}
-use Rattle.std.specs.Prelude.{None, Ok, Some}
-use mathlib.Core.Path.{◌≡◌, sym, ◌∙◌, ap}
+use Rattle.std.specs.Prelude.{Bool, ◌&&◌, if◌then◌else◌, None, Some}
+use mathlib.Core.Path.{◌≡◌, refl, sym, ◌∙◌, ap}
 use mathlib.Core.Bool.{true, false}
 use mathlib.Core.List.{List}
 use Prim.Native.Nat.{ℕ, ◌≤◌}
 use lib.IntN.{ℤ, pos}
 use lib.ListN.{length, drop}
-use Rattle.exact.proofs.Unique.{one}
-use Rattle.tariff.specs.declared.Check.{Check}
-use Rattle.tariff.specs.declared.Check.TheVariants.{Form, Range}
-use Rattle.tariff.specs.Reply.{clear, fault, number_of, place_of}
+use Rattle.exact.proofs.Apart.{impossible}
+use Rattle.tariff.specs.Reply.{FORM, RANGE, clear, fault, ◌then◌}
 use Rattle.tariff.specs.Import.{outside, import_day_fault, ImportReply, refused, import_reply_by}
-use Rattle.tariff.specs.Sheet.{USUAL_DAY, LONGEST_DAY, hours_by}
+use Rattle.tariff.specs.Sheet.{USUAL_DAY, LONGEST_DAY, hours_by, is_count, is_mark, is_name}
 use Rattle.tariff.proofs.Counts as counts
-use Rattle.tariff.proofs.Demands.{one_finding}
 use Rattle.keys.specs.Keys.{IMPORT}
-use Rattle.lines.specs.Line.{place_in, value_in, line_feed, line_at}
+use Rattle.lines.specs.Line.{is_at, place_in, value_in, line_feed, line_at}
+use Rattle.lines.proofs.Along.{never_at}
 use Rattle.lines.proofs.Ended.{feed_inside}
-use Rattle.imports.specs.declared.head.Head.{Head}
+use Rattle.imports.specs.declared.head.FirstLine.{FirstLine}
 use Rattle.imports.specs.Import.{head_line, head_place, name_in, cts_in, count_in, hours_in, head_in_range, head_fault, reply_under, import_reply}
-use Rattle.imports.specs.Read.{LineRead, HeadRead, refused_head}
+use Rattle.imports.specs.Read.{line_by, line_read, HeadSaid}
+
+-- what line 1 says, and where it ends
+record LineSaid (s : List ℕ) (l : FirstLine) : Type 0 where
+  place : head_line s ≡ Some l.next
+  name : l.name ≡ name_in s
+  cts : l.cts ≡ cts_in s
+  count : l.count ≡ count_in s
 
 module _ (s : List ℕ) where
-  -- line 1 with its third pair, and without
-  pub line_long : (next : ℕ) (name cts count : ℤ) → line_at IMPORT 3 s 0 ≡ Some next → name ≡ name_in s → cts ≡ cts_in s → count ≡ value_in IMPORT s 0 2
-      → LineRead s (record { next = Some next; name = name; cts = cts; count = count })
+  -- ---- line 1 with its third pair, and without
+
+  pub line_long : {next : ℕ} → line_at IMPORT 3 s 0 ≡ Some next
+      → Some (record { name = name_in s; cts = cts_in s; count = value_in IMPORT s 0 2; next = next }) ≡ line_read s
   unfolding count_in
-  line_long next name cts count e p q r = record { next = rw e (sym e); name = p; cts = q; count = rw e r }
+  line_long {next} e = rw (e, e)
 
-  pub line_short : (next : Next) (name cts : ℤ) → line_at IMPORT 3 s 0 ≡ None → line_at IMPORT 2 s 0 ≡ next → name ≡ name_in s → cts ≡ cts_in s
-      → LineRead s (record { next = next; name = name; cts = cts; count = pos USUAL_DAY })
+  pub line_short : line_at IMPORT 3 s 0 ≡ None → line_by (line_at IMPORT 2 s 0) (name_in s) (cts_in s) (pos USUAL_DAY) ≡ line_read s
   unfolding count_in
-  line_short next name cts e two p q = record { next = rw e (sym two); name = p; cts = q; count = rw e }
+  line_short e = rw e
 
-  -- a head that is refused
-  refused_by : (check : Check) (r : Head) → head_fault s ≡ fault (number_of check) (place_of check) → r ≡ refused_head check → HeadRead s r
-  refused_by check r e f = rw f (record { found = sym e; name = rw e; cts = rw e; hours = rw e; next = rw e })
+  -- ---- both lines
 
-  pub head_line1 : (r : Head) → head_line s ≡ None → r ≡ refused_head (Form 1) → HeadRead s r
+  no_line : None ≡ line_read s → head_line s ≡ None
+  no_line = go (head_line s)
+    where
+      go : (a : Next) → None ≡ line_by a (name_in s) (cts_in s) (count_in s) → a ≡ None
+      go (Some next) e = impossible cc
+      go None e = refl
+
+  pub no_line1 : None ≡ line_read s → head_fault s ≡ fault FORM 1
   unfolding head_fault
-  head_line1 r e f = refused_by (Form 1) r (rw e) f
+  no_line1 e = rw (no_line e)
 
-  module _ (second : ℕ) (e1 : head_line s ≡ Some second) where
-    pub head_line2 : (r : Head) → line_feed s second ≡ None → r ≡ refused_head (Form 2) → HeadRead s r
+  module _ {l : FirstLine} (e : Some l ≡ line_read s) where
+    line_said : LineSaid s l
+    line_said = go (head_line s) refl e
+      where
+        go : (a : Next) → head_line s ≡ a → Some l ≡ line_by a (name_in s) (cts_in s) (count_in s) → LineSaid s l
+        go (Some next) q e =
+            let same : l ≡ record { name = name_in s; cts = cts_in s; count = count_in s; next = next } = cc in
+            record {
+              place = q ∙ ap (λ (x : FirstLine). Some x.next) (sym same);
+              name = ap (λ (x : FirstLine). x.name) same;
+              cts = ap (λ (x : FirstLine). x.cts) same;
+              count = ap (λ (x : FirstLine). x.count) same;
+            }
+        go None q e = impossible cc
+
+    pub no_line2 : line_feed s l.next ≡ None → head_fault s ≡ fault FORM 2
     unfolding head_fault head_place
-    head_line2 r e f = refused_by (Form 2) r (rw (e1, e)) f
+    no_line2 f = rw (line_said.place, f)
 
-    module _ (next : ℕ) (e2 : line_feed s second ≡ Some next) where
-      head_place_lem : head_place s ≡ Some next
+    module _ {next : ℕ} (f : line_feed s l.next ≡ Some next) where
+      place_lem : head_place s ≡ Some next
       unfolding head_place
-      head_place_lem = rw (e1, e2)
+      place_lem = rw (line_said.place, f)
 
-      pub head_range : (r : Head) → head_in_range s ≡ false → r ≡ refused_head (Range 1) → HeadRead s r
+      abbrev lies : Bool
+      lies = is_name l.name && is_mark l.cts && is_count l.count
+
+      lies_is : lies ≡ head_in_range s
+      lies_is = rw (line_said.name, line_said.cts, line_said.count)
+
+      pub out_of_range : lies ≡ false → head_fault s ≡ fault RANGE 1
       unfolding head_fault
-      head_range r e f = refused_by (Range 1) r (rw (e1, head_place_lem, e)) f
+      out_of_range g = rw (line_said.place, place_lem, ← lies_is, g)
 
-      head_clear : head_in_range s ≡ true → head_fault s ≡ clear
-      unfolding head_fault
-      head_clear e = rw (e1, head_place_lem, e)
+      pub head_said : lies ≡ true → {hours : ℕ} → hours ≡ hours_by l.count → HeadSaid s (record { name = l.name; cts = l.cts; hours = hours; next = next })
+      unfolding head_fault hours_in
+      head_said g h =
+          let said = line_said in
+          record {
+            sound = rw (said.place, place_lem, ← lies_is, g);
+            name = said.name;
+            cts = said.cts;
+            hours = h ∙ ap hours_by said.count;
+            next = rw place_lem;
+          }
 
-      pub head_said : (name cts count : ℤ) (hours : ℕ) → head_in_range s ≡ true → name ≡ name_in s → cts ≡ cts_in s → count ≡ count_in s → hours ≡ hours_by count
-          → HeadRead s (record { found = Ok tt; name = name; cts = cts; hours = hours; next = next })
-      unfolding hours_in
-      head_said name cts count hours e p q r h =
-          let c = head_clear e in
-          record { found = sym c; name = rw c p; cts = rw c q; hours = rw c (h ∙ ap hours_by r); next = rw c (sym (ap place_in head_place_lem)) }
+  -- ---- how many hours the day has by line 1, or where it is not as printed
 
-  -- what lines that are not refused say
-  module _ (r : Head) (h : HeadRead s r) (c : head_fault s ≡ clear) where
-    pub said_name : r.name ≡ name_in s
-    said_name = h.name ∙ rw c
+  pub hours_said : {l : FirstLine} → Some l ≡ line_read s → hours_by l.count ≡ hours_in s
+  unfolding hours_in
+  hours_said e = ap hours_by (line_said e).count
 
-    pub said_cts : r.cts ≡ cts_in s
-    said_cts = h.cts ∙ rw c
-
-    pub said_hours : r.hours ≡ hours_in s
-    said_hours = h.hours ∙ rw c
-
-    pub said_next : r.next ≡ place_in (head_place s)
-    said_next = h.next ∙ rw c
-
--- no two different heads are read of one text
-pub one_head : (s : List ℕ) (r t : Head) → HeadRead s r → HeadRead s t → r ≡ t
-one_head s r t p q =
-    let found = one_finding r.found t.found _ p.found q.found in
-    let name = one r.name t.name p.name q.name in
-    let cts = one r.cts t.cts p.cts q.cts in
-    let hours = one r.hours t.hours p.hours q.hours in
-    let next = one r.next t.next p.next q.next in
-    λ i. record { found = found i; name = name i; cts = cts i; hours = hours i; next = next i }
+  pub usual_hours : None ≡ line_read s → hours_by (pos USUAL_DAY) ≡ hours_in s
+  unfolding hours_in count_in
+  usual_hours e = go (line_at IMPORT 3 s 0) refl
+    where
+      go : (a : Next) → line_at IMPORT 3 s 0 ≡ a → hours_by (pos USUAL_DAY) ≡ hours_by (if is_at (line_at IMPORT 3 s 0) then value_in IMPORT s 0 2 else pos USUAL_DAY)
+      go (Some next) q = absurd (never_at (let none = no_line e in sym (rw (q, q) at none)))
+      go None q = rw q
 
 -- ---- the place behind them is in the text
 

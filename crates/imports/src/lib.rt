@@ -5,7 +5,7 @@ ghost use Rattle.std.specs.Prelude.{◌≡◌};
 ghost use Rattle.tariff.specs.Import.{import_told};
 ghost use Rattle.imports.specs.Import.{hours_in, import_reply};
 
-use tariff::{ImportAnswer, ImportFault};
+use tariff::{ImportAnswer, ImportFault, USUAL_COUNT};
 
 mod block;
 mod days;
@@ -15,18 +15,19 @@ mod head;
 pub fn hours_of(s: &[u8]) -> usize
     ensures { result ≡ hours_in s.now }
 {
-    let line = head::read_line(s);
-    ranges::hours_by(line.count)
+    let count = match head::read_line(s) {
+        Some(line) => line.count,
+        None => USUAL_COUNT,
+    };
+    ranges::hours_by(count)
 }
 
 // Settles a curtailed import's day. Any bytes are judged.
 pub fn settle_import(s: &[u8]) -> ImportAnswer
     ensures { import_told result ≡ import_reply s.now }
 {
-    let head = head::read_head(s);
-    let found = head.found;
-    if let Err(check) = found {
-        return ImportAnswer::Refused(ImportFault::Head(check));
+    match head::read_head(s) {
+        Ok(head) => days::settle_blocks(s, head),
+        Err(check) => ImportAnswer::Refused(ImportFault::Head(check)),
     }
-    days::settle_blocks(s, head.next, head.name, head.cts, head.hours)
 }

@@ -1,6 +1,7 @@
 -- Laws that the proofs of the crate's functions cite, and those by which texts of lines are compared and printed.
 pub mod Fill
 pub mod Lines
+pub mod Exits
 pub mod Whole
 pub mod Series
 pub mod Along

@@ -7,7 +7,6 @@ use Prim.Native.Nat.{ℕ, zero, suc, ◌+◌, ◌-◌, ◌<◌, ◌≤◌}
 use native.Mathlib.Numerals.{add-one}
 use native.Mathlib.Nat.{add-zero, add-suc}
 use native.Mathlib.Omega.{arith}
-use borrow.Author.Tests.{ne_eqb}
 use lib.ListN.{set, replicate}
 use Rattle.std.specs.Prelude.{if◌then◌else◌, None, Some}
 use Rattle.exact.specs.Whole.{up_to}
@@ -15,7 +14,6 @@ use Rattle.exact.proofs.Apart.{impossible}
 use Rattle.exact.proofs.Parts.{by_test}
 use Rattle.lines.specs.Line.{closes, filled}
 use Rattle.lines.specs.Series.{series_place, series_from, series_in, Series, line_count, broken_line, series_after, series_at}
-use Rattle.lines.specs.Told.{SeriesFound}
 use Rattle.lines.proofs.Fill.{fill_next}
 
 -- ---- each line, from its place
@@ -117,26 +115,27 @@ module _ {A : Type 0} (line : List ℕ → ℕ → Next) (before most : ℕ) (sa
       let all : most - 0 ≡ most = omega arith in
       record { few = omega arith; place = place_first line s at; rest = rw all; series = rw all (ap (replicate most) e) }
 
-  module _ (array : List A) (i n : ℕ) (h : ReadTo array i n) where
-    pub series_end : closes s i ≡ true → SeriesFound line before most say blank s at 0 n array
-    series_end e = record { told = sym (h.rest ∙ closed line before s i n (most - n) e); series = λ z. h.series }
+  -- what is found: the lines that are counted, or the first that is not as printed
+  abbrev found : Series
+  found = series_at line before most s at 0
 
-    refused : (k : ℕ) → 0 < k → series_at line before most s at 0 ≡ broken_line k → SeriesFound line before most say blank s at k n array
-    refused k u e = record { told = rw (ne_eqb k 0 (λ z. omega arith)) (sym e); series = λ z. absurd (omega arith) }
+  module _ (array : List A) (i n : ℕ) (h : ReadTo array i n) where
+    pub series_end : closes s i ≡ true → found ≡ line_count n
+    series_end e = h.rest ∙ closed line before s i n (most - n) e
 
     module _ (e : closes s i ≡ false) where
-      pub series_over : 0 < before → most ≤ n → SeriesFound line before most say blank s at (most + before) n array
-      series_over b u =
+      pub series_over : most ≤ n → found ≡ broken_line (most + before)
+      series_over u =
           let all : n ≡ most = let l = h.few in omega arith in
           let none : most - n ≡ 0 = omega arith in
-          refused (most + before) (omega arith) (h.rest ∙ rw (none, all) (many line before s i most e))
+          h.rest ∙ rw (none, all) (many line before s i most e)
 
       module _ (u : n < most) where
         left_one : most - n ≡ suc (most - (n + 1))
         left_one = omega arith
 
-        pub series_break : 0 < before → line s i ≡ None → SeriesFound line before most say blank s at (n + before) n array
-        series_break b f = refused (n + before) (omega arith) (h.rest ∙ rw left_one (broken line before s i n e _ f))
+        pub series_break : line s i ≡ None → found ≡ broken_line (n + before)
+        series_break f = h.rest ∙ rw left_one (broken line before s i n e _ f)
 
         pub series_next : (next : ℕ) (v : A) → line s i ≡ Some next → v ≡ say s i → ReadTo (set array n v) next (n + 1)
         series_next next v f p =

@@ -1,2 +1,3 @@
--- That each contract has one reply.
+-- The interval lines of a block as the code reads them; and that each contract has one reply.
+pub mod Turns
 pub mod Unique

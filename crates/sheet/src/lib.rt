@@ -13,13 +13,10 @@ pub fn settle_block(block: &[u8], excluded: bool, expected: Expected, row: &mut 
     ensures reply { told result ≡ reply_to (block_of block.now) excluded expected (length row.old) }
     ensures row { row.new ≡ row_to (block_of block.now) excluded expected row.old }
 {
-    let read = blocks::read_hour(block);
-    let broken = read.broken;
-    if broken != 0 {
-        return Answer::Refused(Check::Form(broken));
+    match blocks::read_hour(block) {
+        Ok(hour) => engine::settle(hour, excluded, expected, row),
+        Err(line) => Answer::Refused(Check::Form(line)),
     }
-    let hour = read.hour;
-    engine::settle(hour, excluded, expected, row)
 }
 
 // What a block says of itself, as a program prints it: its hour and how many intervals it has, or zeros where it cannot be read.
@@ -32,14 +29,11 @@ pub struct Said {
 pub fn said_by(block: &[u8]) -> Said
     ensures { (result.hour ≡ hour_said (block_of block.now)) × (result.n ≡ count_said (block_of block.now)) }
 {
-    let read = blocks::read_hour(block);
-    let broken = read.broken;
-    if broken != 0 {
-        return Said { hour: 0, n: 0 };
-    }
-    let hour = read.hour;
-    Said {
-        hour: hour.hour,
-        n: hour.n,
+    match blocks::read_hour(block) {
+        Ok(hour) => Said {
+            hour: hour.hour,
+            n: hour.n,
+        },
+        Err(_) => Said { hour: 0, n: 0 },
     }
 }

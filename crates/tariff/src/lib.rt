@@ -8,18 +8,18 @@ ghost use Rattle.tariff.specs.Reply.{number_of, place_of};
 mod sums;
 
 // Power in whole kilowatts. Withdrawal is negative.
-#[derive(Clone, Copy, PartialEq, Eq, PartialOrd, Ord)]
+#[derive(Clone, Copy, Default, PartialEq, Eq, PartialOrd, Ord)]
 pub struct Kw(pub i64);
 
 // Cents per MWh.
-#[derive(Clone, Copy, PartialEq, Eq, PartialOrd, Ord)]
+#[derive(Clone, Copy, Default, PartialEq, Eq, PartialOrd, Ord)]
 pub struct Price(pub i64);
 
 // Cents per MW, the price of regulation movement.
-#[derive(Clone, Copy, PartialEq, Eq, PartialOrd, Ord)]
+#[derive(Clone, Copy, Default, PartialEq, Eq, PartialOrd, Ord)]
 pub struct MovePrice(pub i64);
 
-#[derive(Clone, Copy, PartialEq, Eq, PartialOrd, Ord)]
+#[derive(Clone, Copy, Default, PartialEq, Eq, PartialOrd, Ord)]
 pub struct Seconds(pub i64);
 
 // 1/3,600,000 cent: one kilowatt at one cent per MWh for one second.
@@ -54,7 +54,7 @@ pub struct DayAhead {
 
 // An interval line. It may leave out two powers, as `-`: the upper operating limit `uol`, which then derates nothing, and the economic
 // operating point `eop`, which is then worked out from the real-time curve.
-#[derive(Clone, Copy)]
+#[derive(Clone, Copy, Default)]
 pub struct Interval {
     pub s: Seconds,
     pub en: Kw,
@@ -182,7 +182,7 @@ pub enum Answer {
 }
 
 // A line of a curtailed import's block: what 25.6 reads of an interval. `cut` is 1 where the market curtailed the import.
-#[derive(Clone, Copy)]
+#[derive(Clone, Copy, Default)]
 pub struct Curtailed {
     pub s: Seconds,
     pub cut: i64,
@@ -205,7 +205,7 @@ pub struct ImportHour {
 
 // An interval line of an internal controllable line, an ICL: its real-time schedule, the energy that it injected and withdrew, and the prices at
 // its injection and its withdrawal bus.
-#[derive(Clone, Copy)]
+#[derive(Clone, Copy, Default)]
 pub struct IclInterval {
     pub s: Seconds,
     pub en: Kw,

@@ -1,12 +1,14 @@
--- `hours_of` reads the count on line 1.
-use mathlib.Core.Path.{◌∙◌, ap}
+-- `hours_of` reads the count on line 1, or takes the day for a usual one.
+use mathlib.Core.Path.{refl}
 use borrow.Author.Rules.{rules}
 use Rattle.exact.proofs.Held.{held_is}
-use Rattle.tariff.specs.Sheet.{hours_by}
-use Rattle.imports.specs.Import.{hours_in}
+use Rattle.imports.proofs.Heads.{hours_said, usual_hours}
 use Rattle.imports.proofs.hours_of.Goals as goal
+use Rattle.imports.proofs.hours_of.Goals.{in-Some, in-None}
 
 pub returns : goal.returns
-unfolding hours_in
 returns c =
-    c.hours_by.ensures ∙ ap hours_by (held_is _ _ (search rules) c.read_line-line.ensures.count)
+    elim c.match-read_line.branch [
+      | in-Some w ↦ rw (c.hours_by.ensures, w.count-is, held_is w.in-Some.line.count _ (search rules) refl) (hours_said _ w.in-Some.ensures)
+      | in-None w ↦ rw (c.hours_by.ensures, w.count-is) (usual_hours _ w.in-None.ensures)
+    ]

@@ -1,15 +1,14 @@
--- `said_by` meets its contract: zeros where a line is not as printed, and what the record holds otherwise.
+-- `said_by` meets its contract: what the record holds, and zeros where a line is not as printed.
 use mathlib.Core.Path.{refl}
+use borrow.Author.Rules.{rules}
 use Rattle.exact.proofs.Held.{held_is}
-use Rattle.blocks.proofs.Blocks.{block_broken, block_is}
+use Rattle.curves.proofs.Frames.{told_broken, told_read}
 use Rattle.sheet.proofs.said_by.Goals as goal
 
-pub returns-then-broken-ne0 : goal.returns-then-broken-ne0
-returns-then-broken-ne0 c =
-    let b = block_broken _ _ c.read_hour-read.ensures c.if-broken-ne0.true in
-    (rw b, rw b)
+pub returns-in-Ok : goal.returns-in-Ok
+returns-in-Ok c =
+    let b = told_read _ c.in-Ok.ensures in
+    (rw b (held_is c.in-Ok.hour.hour _ (search rules) refl), rw b)
 
-pub returns : goal.returns
-returns c =
-    let b = block_is _ _ c.read_hour-read.ensures c.if-broken-ne0.false in
-    (rw b (held_is _ _ c.struct_told-1.given.0.1 refl), rw b)
+pub returns-in-Err : goal.returns-in-Err
+returns-in-Err c = let b = told_broken _ c.in-Err.ensures in (rw b, rw b)

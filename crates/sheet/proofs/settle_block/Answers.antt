@@ -1,13 +1,13 @@
 -- `settle_block` meets its contract: a block with a line that is not as printed is refused, and any other is settled.
-use Rattle.blocks.proofs.Blocks.{block_broken, block_is}
+use Rattle.curves.proofs.Frames.{told_broken, told_read}
 use Rattle.sheet.proofs.settle_block.Goals as goal
 
-pub returns-then-broken-ne0 : goal.returns-then-broken-ne0
-returns-then-broken-ne0 c =
-    let b = block_broken _ _ c.read_hour-read.ensures c.if-broken-ne0.true in
-    record { reply = rw b; row = rw b }
-
-pub returns : goal.returns
-returns c =
-    let b = block_is _ _ c.read_hour-read.ensures c.if-broken-ne0.false in
+pub returns-in-Ok : goal.returns-in-Ok
+returns-in-Ok c =
+    let b = told_read _ c.in-Ok.ensures in
     record { reply = rw b c.settle.ensures.reply; row = rw b c.settle.ensures.row }
+
+pub returns-in-Err : goal.returns-in-Err
+returns-in-Err c =
+    let b = told_broken _ c.in-Err.ensures in
+    record { reply = rw b; row = rw b }

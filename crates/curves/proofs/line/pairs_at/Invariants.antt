@@ -1,7 +1,6 @@
 -- `line::pairs_at` meets its contract. After j pairs the place is the one after them, and the first j of both arrays are filled.
 use Rattle.std.specs.Prelude.{Some}
 use mathlib.Core.Path.{◌≡◌}
-use Prim.Native.Nat.{◌-◌, ◌≤◌}
 use lib.IntN.{pos}
 use Rattle.tariff.specs.Units.{kw, price}
 use Rattle.lines.specs.Line.{filled}
@@ -9,9 +8,8 @@ use Rattle.curves.specs.CurveLine.{after_pairs, end_of_pair, price_of_pair}
 use Rattle.curves.proofs.line.pairs_at.Given as goal
 
 abbrev pub invariant-loop-j : goal.invariant-loop-j
-invariant-loop-j l = (l.j ≤ l.n) × (after_pairs l.j l.s l.at ≡ Some l.i)
-    × (l.ends ≡ filled l.j 12 (end_of_pair l.s l.at) (kw (pos 0)))
-    × (l.prices ≡ filled l.j 12 (price_of_pair l.s l.at) (price (pos 0)))
-
-abbrev pub decreases-loop-j : goal.decreases-loop-j
-decreases-loop-j l = l.n - l.j
+invariant-loop-j l = record {
+  place : after_pairs l.j l.s l.at ≡ Some l.i;
+  ends : l.to ≡ filled l.j 12 (end_of_pair l.s l.at) (kw (pos 0));
+  paid : l.prices ≡ filled l.j 12 (price_of_pair l.s l.at) (price (pos 0));
+}

@@ -1,4 +1,4 @@
--- `interval_of` meets its contract: each value of the array is the number that its bits say.
+-- `Interval::of` meets its contract: each value of the array is the number that its bits say.
 use Rattle.tariff.specs.Units.{MaybeKw}
 use mathlib.Core.Path.{ap, ◌∙◌}
 use Prim.Native.Nat.{ℕ}
@@ -8,7 +8,7 @@ use Rattle.tariff.specs.declared.Interval.{Interval}
 use Rattle.records.specs.Records.{interval_of}
 use Rattle.exact.proofs.Bits.{held}
 use Rattle.exact.proofs.Held.{held_values}
-use Rattle.records.proofs.interval_of.Goals as goal
+use Rattle.records.proofs.intervals.IntervalIntervalLine.of.Goals as goal
 
 -- the two numbers of an interval that may be missing stand beside the others
 abbrev given : (ℕ → ℤ) → (eop uol : MaybeKw) → Interval
@@ -39,6 +39,6 @@ given v eop uol =
 
 pub returns : goal.returns
 returns c =
-    let v = c.args.v in
+    let v = c.args.values in
     (λ i. given (λ n. held (get_or v n (pos 0))) (c.maybe_of.ensures i) (c.maybe_of-2.ensures i))
     ∙ ap interval_of (held_values v c.well_formed.0.0 c.well_formed.0.1.1)
