@@ -15,7 +15,7 @@ use Rattle.tariff.specs.Units.{kw}
 use Rattle.tariff.specs.Sheet.{lies_in}
 use Rattle.lines.specs.Line.{and_then, after_fields, value_in, line_feed}
 use Rattle.lines.proofs.Series.{place_next, series_wrong}
-use Rattle.curves.specs.CurveLine.{after_pair, after_pairs, pairs_at, curve_line, curve_said, curve_read, curve_read_at}
+use Rattle.curves.specs.CurveLine.{after_pair, after_pairs, pairs_at, curve_line, curve_said, curve_read, line_read_at}
 use Rattle.curves.specs.Told.{count_of, curve_of}
 
 -- ---- a pair that is not as printed: so are all behind it
@@ -27,12 +27,12 @@ pairs_break s at j i n e h f =
 -- ---- the line: its head, its count, its pairs and its end
 
 module _ (first : ℕ) (s : List ℕ) (at : ℕ) where
-  pub no_head : after_fields first 2 s at ≡ None → None ≡ curve_read_at first s at
+  pub no_head : after_fields first 2 s at ≡ None → None ≡ line_read_at first s at
   unfolding curve_line
   no_head e = rw e
 
   module _ (i : ℕ) (e : after_fields first 2 s at ≡ Some i) where
-    pub no_count : None ≡ count_of (value_in first s at 1) → None ≡ curve_read_at first s at
+    pub no_count : None ≡ count_of (value_in first s at 1) → None ≡ line_read_at first s at
     unfolding curve_line
     no_count f = rw e (none (value_in first s at 1) f)
       where
@@ -60,7 +60,7 @@ module _ (first : ℕ) (s : List ℕ) (at : ℕ) where
       same = counted.1
 
       -- the n pairs, and the line's end
-      pub counted_line : curve_read (and_then (after_pairs n s i) (line_feed s)) (curve_of (kw (value_in first s at 0)) n s i) ≡ curve_read_at first s at
+      pub counted_line : curve_read (and_then (after_pairs n s i) (line_feed s)) (curve_of (kw (value_in first s at 0)) n s i) ≡ line_read_at first s at
       unfolding curve_line curve_said
       counted_line = rw (e, lies, ← same)
 

@@ -18,7 +18,7 @@ use Rattle.lines.specs.Series.{Series, line_count, broken_line}
 use Rattle.records.specs.declared.series.Series as declared
 use Rattle.records.specs.Laws.{LineLaws}
 use Rattle.records.specs.Told.{series_read, series_read_at}
-use Rattle.curves.specs.CurveLine.{curve_read_at}
+use Rattle.curves.specs.CurveLine.{line_read_at}
 use Rattle.curves.specs.Frame.{Kind, first_line, interval_at, interval_lines, Framed, broken, read, with_series, framed_at, framed_read}
 use Rattle.curves.proofs.CurveLines.{not_told, curve_told}
 
@@ -58,16 +58,16 @@ module _ {I H : Type 0} (k : Kind I H) (s : List ℕ) (from : ℕ) where
   frame_line1 e = rw e
 
   module _ {p1 : ℕ} (e1 : first_line k s from ≡ Some p1) where
-    pub frame_line2 : None ≡ curve_read_at DA s p1 → Err 2 ≡ all
+    pub frame_line2 : None ≡ line_read_at DA s p1 → Err 2 ≡ all
     unfolding framed_at
     frame_line2 e = rw (e1, not_told _ _ e)
 
-    module _ {p2 : ℕ} {da : Curve} (e2 : Some (da, p2) ≡ curve_read_at DA s p1) where
-      pub frame_line3 : None ≡ curve_read_at RT s p2 → Err 3 ≡ all
+    module _ {p2 : ℕ} {da : Curve} (e2 : Some (da, p2) ≡ line_read_at DA s p1) where
+      pub frame_line3 : None ≡ line_read_at RT s p2 → Err 3 ≡ all
       unfolding framed_at
       frame_line3 e = rw (e1, (curve_told _ _ e2).0, not_told _ _ e)
 
-      module _ {p3 : ℕ} {rt : Curve} (e3 : Some (rt, p3) ≡ curve_read_at RT s p2) where
+      module _ {p3 : ℕ} {rt : Curve} (e3 : Some (rt, p3) ≡ line_read_at RT s p2) where
         -- the record of the intervals, or the line of them that is not as printed
         abbrev with : Result (declared.Series I) ℕ → Result H ℕ
         with (Ok iv) = Ok (k.hour_of (value_in k.ahead s from) da rt iv.n iv.iv)

@@ -1,13 +1,13 @@
 -- A curve line: start, n, and n pairs. Another n than 0 to 12 is not as printed.
 use Rattle.text.specs.Text.{Next}
-use Rattle.std.specs.Prelude.{if◌then◌else◌, List, ℕ, ℤ, pos, Option, None, Some}
+use Rattle.std.specs.Prelude.{if◌then◌else◌, Bool, List, ℕ, ℤ, pos, Option, None, Some}
 use Rattle.exact.specs.Whole.{over}
 use Rattle.tariff.specs.declared.Kw.{Kw}
 use Rattle.tariff.specs.declared.Price.{Price}
 use Rattle.tariff.specs.declared.Curve.{Curve}
 use Rattle.tariff.specs.Units.{kw, price}
 use Rattle.tariff.specs.Sheet.{lies_in}
-use Rattle.keys.specs.Keys.{PAIR}
+use Rattle.keys.specs.Keys.{PAIR, DA, RT}
 use Rattle.lines.specs.Line.{and_then, after_fields, value_in, line_feed, filled}
 use Rattle.lines.specs.Series.{series_place, series_in}
 
@@ -60,5 +60,12 @@ abbrev pub curve_read : Next → Curve → Option (Curve × ℕ)
 curve_read (Some next) c = Some (c, next)
 curve_read None c = None
 
-abbrev pub curve_read_at : (first : ℕ) → List ℕ → ℕ → Option (Curve × ℕ)
-curve_read_at first s at = curve_read (curve_line first s at) (curve_said first s at)
+abbrev pub line_read_at : (first : ℕ) → List ℕ → ℕ → Option (Curve × ℕ)
+line_read_at first s at = curve_read (curve_line first s at) (curve_said first s at)
+
+-- the first key of the real-time curve's line, or of the day-ahead curve's
+abbrev pub curve_key : (live : Bool) → ℕ
+curve_key live = if live then RT else DA
+
+abbrev pub curve_read_at : (live : Bool) → List ℕ → ℕ → Option (Curve × ℕ)
+curve_read_at live = line_read_at (curve_key live)

@@ -43,8 +43,8 @@ pub fn block_at<K: BlockKind>(s: &[u8], at: usize) -> Result<K::Hour, usize>
 {
     let first = lines::fields_at(s, at, K::FIRST, K::FIELDS);
     let line2 = lines::line_end(s, first.next).ok_or(1usize)?;
-    let (da, line3) = curve_at(s, line2, keys::DA).ok_or(2usize)?;
-    let (rt, line4) = curve_at(s, line3, keys::RT).ok_or(3usize)?;
+    let (da, line3) = curve_at(s, line2, false).ok_or(2usize)?;
+    let (rt, line4) = curve_at(s, line3, true).ok_or(3usize)?;
     let series = records::series_at::<K::Interval>(s, line4, 4)?;
     Ok(K::hour_of(first.values, da, rt, series))
 }

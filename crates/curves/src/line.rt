@@ -1,6 +1,7 @@
-// The parts of a curve line behind its first key: the count, and that many pairs.
-ghost use Rattle.std.specs.Prelude.{◌≡◌, ◌≤◌};
-ghost use Rattle.curves.specs.CurveLine.{after_pairs, curve_read};
+// A curve line from its first key on: the start, the count, and that many pairs.
+ghost use Rattle.std.specs.Prelude.{◌≡◌, ◌+◌, ◌≤◌};
+ghost use Rattle.keys.specs.Keys.{KEYS};
+ghost use Rattle.curves.specs.CurveLine.{after_pairs, curve_read, line_read_at};
 ghost use Rattle.curves.specs.Told.{count_of, curve_of};
 
 use tariff::{Curve, Kw, Price};
@@ -39,4 +40,16 @@ pub fn pairs_at(s: &[u8], at: usize, start: Kw, n: usize) -> Option<(Curve, usiz
         },
         i,
     ))
+}
+
+// The curve line at a place, from key `first` on: its curve, and the place behind it.
+pub fn line_from(s: &[u8], at: usize, first: usize) -> Option<(Curve, usize)>
+    requires { first + 2 ≤ KEYS }
+    ensures { result ≡ line_read_at first s.now at }
+{
+    let head = lines::fields_at(s, at, first, 2);
+    let pairs = head.next?;
+    let n = count_of(head.values[1])?;
+    let (curve, end) = pairs_at(s, pairs, Kw(head.values[0]), n)?;
+    Some((curve, lines::line_end(s, Some(end))?))
 }

@@ -1,4 +1,4 @@
--- `curve_at` meets its contract: the line's head, a count of at most 12, its pairs, and its end.
+-- `line_from` meets its contract: the line's head, a count of at most 12, its pairs, and its end.
 use Rattle.std.specs.Prelude.{None, Some}
 use mathlib.Core.Path.{◌≡◌, sym, ◌∙◌}
 use mathlib.Core.List.{List}
@@ -11,8 +11,8 @@ use Rattle.lines.specs.declared.Fields.{Fields}
 use Rattle.lines.specs.Line.{fields_at}
 use Rattle.lines.proofs.Lines.{FieldsRead, is_line_lem, fields_read}
 use Rattle.curves.proofs.CurveLines.{no_head, no_count, counted_line, no_pairs, pairs_end}
-use Rattle.curves.proofs.curve_at.Goals as goal
-use Rattle.curves.proofs.curve_at.Goals.{In_ok-n}
+use Rattle.curves.proofs.line.line_from.Goals as goal
+use Rattle.curves.proofs.line.line_from.Goals.{In_ok-n}
 
 head : (first at : ℕ) (s : List ℕ) → first + 2 ≤ KEYS → (r : Fields) → r ≡ fields_at first 2 s at → FieldsRead first 2 s at r
 head first at s q r e = fields_read first 2 s at r (is_line_lem first 2 q (omega arith)) e
