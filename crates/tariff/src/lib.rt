@@ -116,7 +116,8 @@ pub struct MarkedDay {
     pub marks: Marks,
 }
 
-// The hour that a block has to say: any, or its place in a day, and how many hours that day has.
+// The hour that a block has to say: any, or its place in a day, and how many hours that day has. An Option would be no plainer: its `None` would have
+// to be read as every hour.
 #[derive(Clone, Copy)]
 pub enum Expected {
     Any,
@@ -174,7 +175,7 @@ pub fn place_of(check: Check) -> usize
     }
 }
 
-// What a call gives back.
+// What a call gives back. Document 01 names the form: an enum of its own whose refused case holds a second one, with the check and its place.
 #[derive(Clone, Copy)]
 pub enum Answer {
     Paid(Grains, Cents),
@@ -236,7 +237,7 @@ pub enum ImportFault {
     Surplus,
 }
 
-// What the import call gives back: paid, with the import's number, its sum and its cents, or refused.
+// What the import call gives back: paid, with the import's number, its sum and its cents, or refused. Document 01 names this form too.
 #[derive(Clone, Copy)]
 pub enum ImportAnswer {
     Paid(i64, Grains, Cents),
