@@ -104,10 +104,22 @@ while read -r n program first blocks; do
     fi
 done <"$work/answers"
 
-# --- The keys: KIND.N and key of the reader's table, and those of the page's rows.
-awk '/^pub fn [a-z]*_key\(/ { kind = $3; sub(/_key\(.*/, "", kind); n = 0 }
-    /=> text::key_at\(/ { key = $0; sub(/.*b" */, "", key); sub(/=".*/, "", key); print kind "." n++, key }' \
-    "$root/crates/keys/src/table.rt" >"$work/reader"
+# --- The keys: KIND.N and key of the reader's table, and those of the page's rows. Each kind begins at the number that is its constant.
+kinds='ahead AHEAD curve DA energy INTERVAL reserve RESERVES regulation REGULATION
+    import IMPORT curtailed CURTAILED header HEADER icl LINE_LINE'
+awk -v kinds="$kinds" '
+    BEGIN { n = split(kinds, word, " "); for (i = 2; i <= n; i += 2) kind_of[word[i]] = word[i - 1] }
+    FNR == NR { if (/^pub const [A-Z_]+: usize = [0-9]+;/) { sub(/:/, "", $3); if ($3 in kind_of) first[$6 + 0] = kind_of[$3] }; next }
+    {
+        while (match($0, /b" *[a-z0-9]+="/)) {
+            key = substr($0, RSTART + 2, RLENGTH - 4)
+            $0 = substr($0, RSTART + RLENGTH)
+            sub(/^ */, "", key)
+            if (k in first) { kind = first[k]; n = 0 }
+            print kind "." n++, key
+            k++
+        }
+    }' k=0 "$root/crates/keys/src/lib.rt" "$root/crates/keys/src/table.rt" >"$work/reader"
 [ -s "$work/reader" ] || fail "the reader's table of keys was not found in crates/keys/src/table.rt"
 awk 'NR == FNR { kind = $1; sub(/\..*/, "", kind); all[kind] = all[kind] " " $1; next }
     { n = split($1 in all ? all[$1] : $1, k, " "); for (i = 1; i <= n; i++) print k[i], $2, $3, $4 }' \

@@ -5,8 +5,8 @@
 #
 # A code span of the page with a slash in it is a reference, `path` or
 # `path#name`: the path is there, and the name is declared in that file, in
-# .antt as `name :`, in .rt as a fn, struct or enum, in .rs as one of these, a
-# const, static, mod or type, or an enum's case, in .sh as `name()`.
+# .antt as `name :`, in .rt as a fn, struct, enum or static, in .rs as one of
+# these, a const, mod or type, or an enum's case, in .sh as `name()`.
 # And the page is whole: it names each theorem of the front pages and of every
 # Unique.antt, each must-fail edit and each public function. The last line
 # counts what passed and what failed; the status is 1 if anything failed.
@@ -81,7 +81,7 @@ function antt(line, name) {
     if (name !~ /^[({]/ && behind(substr(line, length(name) + 1)) ~ /^ :( |$)/) print file "\t" name
 }
 function rt(line, words) {
-    if (match(line, /^ *(pub )?(extern "C" )?(fn|struct|enum) [A-Za-z0-9_]+/))
+    if (match(line, /^ *(pub )?(extern "C" )?(fn|struct|enum|static) [A-Za-z0-9_]+/))
         print file "\t" words[split(substr(line, 1, RLENGTH), words, " ")]
 }
 # The word behind a keyword, and each case of an enum.

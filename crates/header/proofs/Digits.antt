@@ -1,63 +1,60 @@
--- Rows of digits, hour by hour as the code reads them, and runs, digit by digit.
-use mathlib.Core.Path.{◌≡◌, sym, ◌∙◌, ap}
+-- Rows of digits, hour by hour as the code reads them, and runs of digits.
+use mathlib.Core.Path.{◌≡◌, sym, ◌∙◌, ap, refl}
 use mathlib.Core.Bool.{Bool, true}
-use mathlib.Core.List.{List, ◌∷◌}
-use Prim.Native.Nat.{ℕ, suc, ◌+◌, ◌≤◌, ◌<◌}
-use native.Mathlib.Numerals.{add-one}
+use mathlib.Core.List.{List, [], ◌∷◌}
+use Prim.Native.Nat.{ℕ, suc, ◌+◌, ◌-◌, ◌≤◌, ◌<◌}
+use native.Mathlib.Numerals.{one-add}
 use native.Mathlib.Omega.{arith}
 use borrow.Author.Tests.{lt-ltb}
 use lib.Dec.{ltb}
-use lib.ListN.{length, drop, drop_of_length-le}
-use lib.Seq.{drop-cons}
+use lib.ListN.{length, take, drop, length-drop}
+use Rattle.std.proofs.lemmas.List.{length-take}
 use Rattle.std.specs.Prelude.{if◌then◌else◌, None, Some}
+use Rattle.std.specs.Char.{is_ascii_digit}
+use Rattle.std.specs.List.{prefix_len, take_while}
+use Rattle.std.proofs.lemmas.Bool.Decides.{nat_tests}
+use Rattle.exact.proofs.Parts.{by_test}
 use Rattle.tariff.specs.Sheet.{all_to}
-use Rattle.tariff.proofs.Tests.{all_not}
-use Rattle.text.specs.Text.{END, byte_at}
-use Rattle.text.specs.Number.{NO_DIGIT, digit_of, digit_at}
+use Rattle.tariff.proofs.Tests.{all_not, all_none, all_next}
+use Rattle.text.specs.Number.{digit_at, digit_said, is_numeral}
+use Rattle.text.proofs.Numbers.{not_said, said_is, said_below}
 use Rattle.header.specs.Layout.{digits_at, run_of, behind_run}
-
--- the digit of an hour, read at its place
-pub digit_of_lem : (s : List ℕ) (at h : ℕ) {i d : ℕ} → i ≡ at + h → d ≡ digit_at s i → d ≡ digit_at s (at + h)
-digit_of_lem s at h p e = e ∙ ap (digit_at s) p
 
 -- a digit for each hour
 module _ (s : List ℕ) (at : ℕ) where
   abbrev pub is_digit : ℕ → Bool
   is_digit h = ltb (digit_at s (at + h)) 10
 
-  pub digit_is : (h : ℕ) {d : ℕ} → d ≡ digit_at s (at + h) → d ≤ 10 → (d ≡ 10 → ⊥) → is_digit h ≡ true
-  digit_is h e u n = lt-ltb (digit_at s (at + h)) 10 (omega arith)
+  pub digit_is : (h i d : ℕ) → i ≡ at + h → Some d ≡ digit_said s i → is_digit h ≡ true
+  digit_is h i d p e = let below = said_below s i d e in ap (λ (k : ℕ). ltb (digit_at s k) 10) (sym p) ∙ lt-ltb _ 10 (omega (arith, said_is s i d e))
 
-  pub no_digit : (h hours : ℕ) {d : ℕ} → h < hours → d ≡ digit_at s (at + h) → d ≡ 10 → None ≡ digits_at hours s at
+  pub no_digit : (h hours i : ℕ) → h < hours → i ≡ at + h → None ≡ digit_said s i → digits_at hours s at ≡ None
   unfolding digits_at
-  no_digit h hours u e n = rw (all_not is_digit hours h u (ap (λ (x : ℕ). ltb x 10) (sym e ∙ n)))
+  no_digit h hours i u p e = rw (all_not is_digit hours h u (ap (λ (k : ℕ). ltb (digit_at s k) 10) (sym p) ∙ ap (λ (d : ℕ). ltb d 10) (not_said s i e)))
 
-  pub digits_end : (h hours : ℕ) {i : ℕ} → h ≡ hours → i ≡ at + h → all_to is_digit h ≡ true → Some i ≡ digits_at hours s at
+  pub digits_end : (h hours i : ℕ) → h ≡ hours → i ≡ at + h → all_to is_digit h ≡ true → digits_at hours s at ≡ Some i
   unfolding digits_at
-  digits_end h hours same p e = rw (← same, e, p)
+  digits_end h hours i same p e = rw (← same, e, p)
 
--- a run stops at what is no digit, and where nothing is left
-run_none : (b : ℕ) (t : List ℕ) → digit_of b ≡ NO_DIGIT → run_of (b ∷ t) ≡ 0
+pub ruleset digits_steps = (digit_is, no_digit, digits_end, all_none, all_next)
+
+-- a run is the digits in front
+numeral_is : (b : ℕ) → is_numeral b ≡ is_ascii_digit b
+numeral_is b = grind (arith, nat_tests)
+
+run_is : (t : List ℕ) → length (take_while is_ascii_digit t) ≡ run_of t
 unfolding run_of
-run_none b t e = ap (λ (d : ℕ). if ltb d NO_DIGIT then suc (run_of t) else 0) e
+run_is [] = refl
+run_is (b ∷ t) =
+    rw (numeral_is b)
+    (by_test (is_ascii_digit b)
+    (λ (x : Bool). length (take (if x then 1 + prefix_len is_ascii_digit t else 0) (b ∷ t)) ≡ (if x then suc (run_of t) else 0))
+    (λ e. rw one-add (ap suc (run_is t)))
+    (λ e. refl))
 
-run_one : (b : ℕ) (t : List ℕ) → ltb (digit_of b) NO_DIGIT ≡ true → run_of (b ∷ t) ≡ suc (run_of t)
-unfolding run_of
-run_one b t e = ap (λ (d : Bool). if d then suc (run_of t) else 0) e
+pub run_behind : (s : List ℕ) (at : ℕ) → behind_run s at ≡ Some (at + length (take_while is_ascii_digit (drop at s)))
+run_behind s at = ap (λ (n : ℕ). Some (at + n)) (sym (run_is (drop at s)))
 
-module _ (s : List ℕ) (i : ℕ) where
-  pub run_ends : length s ≤ i → Some i ≡ behind_run s i
-  unfolding run_of
-  run_ends u = ap Some (omega (arith, ap run_of (drop_of_length-le s u)))
-
-  module _ (u : i < length s) {d : ℕ} (e : d ≡ digit_at s i) where
-    pub run_stops : d ≡ NO_DIGIT → Some i ≡ behind_run s i
-    unfolding digit_at
-    run_stops n = ap Some (omega (arith, ap run_of (drop-cons s i END u) ∙ run_none (byte_at s i) (drop (suc i) s) (sym e ∙ n)))
-
-    pub run_goes_on : d ≤ NO_DIGIT → (d ≡ NO_DIGIT → ⊥) → behind_run s (i + 1) ≡ behind_run s i
-    unfolding digit_at
-    run_goes_on v n =
-        let digit = lt-ltb (digit_of (byte_at s i)) NO_DIGIT (omega arith) in
-        let more = ap run_of (drop-cons s i END u) ∙ run_one (byte_at s i) (drop (suc i) s) digit in
-        rw (add-one i) (ap Some (omega (arith, more)))
+-- it ends inside the text, or at a place past its end
+pub run_inside : (s : List ℕ) (at : ℕ) → length (take_while is_ascii_digit (drop at s)) ≤ length s - at
+run_inside s at = let few = length-take (prefix_len is_ascii_digit (drop at s)) (drop at s) in omega (arith, length-drop at s)

@@ -1,27 +1,28 @@
 -- Each form: what its lines have in common with the others', and what its first lines decide.
+use Rattle.std.specs.Prelude.{Result, Ok, Err, IfOk}
 use Rattle.text.specs.Text.{Next}
 use mathlib.Core.Path.{◌≡◌, refl, sym, ◌∙◌, ap}
 use mathlib.Core.Bool.{Bool, true, false, false≢true}
 use mathlib.Core.List.{List}
-use Prim.Native.Nat.{ℕ, suc, ◌+◌, ◌<◌}
+use Prim.Native.Nat.{ℕ, suc, ◌+◌, ◌-◌, ◌≤◌, ◌<◌}
 use native.Mathlib.Omega.{arith}
 use borrow.Author.Tests.{eqb-true, leb-true}
-use lib.Dec.{eqb, leb, lit<}
+use lib.Dec.{eqb, leb, lit<, lit≤}
 use lib.IntN.{ℤ, pos, negsuc}
 use lib.ListN.{get_or, length}
+use Rattle.tariff.specs.declared.Check.{Check}
 use Rattle.tariff.specs.Sheet.{is_count, all_to, lies_in}
 use Rattle.tariff.specs.Reply.{RANGE, clear}
 use Rattle.tariff.proofs.Checks.{then_clear}
 use Rattle.tariff.proofs.Tests.{all_at, and_left, and_right}
 use Rattle.keys.specs.Keys.{HOURS_LINE, UNIT_LINE, RTC_LINE, CAT_LINE, X1_LINE, X2_LINE, X3_LINE, X4_LINE, X5_LINE, X6_LINE, MARK_LINE}
-use Rattle.lines.specs.Line.{place_in}
 use Rattle.header.specs.declared.layout.Form.{Form}
 use Rattle.header.specs.declared.layout.Form.TheVariants.{One, Two, Icl}
 use Rattle.header.specs.declared.layout.Line.{Line}
 use Rattle.header.specs.declared.layout.Line.TheVariants.{Number, Row}
 use Rattle.header.specs.Layout.{line_in, said_at, header_line, line_place, number_from, line_in_range, layout_form, layout_range, layout_fault, line_of, number_on}
-use Rattle.header.specs.Header.{CATEGORIES, MARKS, ICL_MARKS, unit_and_marks, form1, form2, icl_lines, form_by, layout_by, count_by, layout_in, hours_in, fault_in, next_in}
-use Rattle.header.specs.Places.{RowStands, Placed}
+use Rattle.header.specs.Header.{CATEGORIES, MARKS, ICL_MARKS, unit_and_marks, form1, form2, icl_lines, form_by, layout_by, count_by, layout_in, hours_in, fault_in}
+use Rattle.header.specs.Places.{RowStands, Placed, fault_of, HeadRead}
 use Rattle.header.proofs.HeaderLines.{none_refused, is_in_range, are_keyed, stands}
 use Rattle.header.proofs.Said.{row_whole}
 
@@ -40,12 +41,24 @@ lines_few One judged = lit< tt
 lines_few Two judged = lit< tt
 lines_few Icl judged = lit< tt
 
+pub lines_some : (form : Form) → 4 ≤ length (layout_by form true)
+lines_some One = lit≤ tt
+lines_some Two = lit≤ tt
+lines_some Icl = lit≤ tt
+
 pub lines_keyed : (form : Form) (judged : Bool) → are_keyed (layout_by form judged) ≡ true
 lines_keyed One judged = refl
 lines_keyed Two true = refl
 lines_keyed Two false = refl
 lines_keyed Icl true = refl
 lines_keyed Icl false = refl
+
+-- behind a form's first lines stand those that both have
+pub behind_one : (judged : Bool) (j : ℕ) → 1 ≤ j → line_in (layout_by One judged) j ≡ line_in (unit_and_marks true) (j - 1)
+behind_one judged j h = let e : j ≡ suc (j - 1) = omega arith in ap (line_in form1) e
+
+pub behind_two : (judged : Bool) (j : ℕ) → 2 ≤ j → line_in (layout_by Two judged) j ≡ line_in (unit_and_marks judged) (j - 2)
+behind_two judged j h = let e : j ≡ suc (suc (j - 2)) = omega arith in ap (line_in (form2 judged)) e
 
 -- a row on its line
 abbrev pub RowOn : List Line → (key admitted j : ℕ) → Type 0
@@ -91,6 +104,14 @@ rows_in false =
 
 pub rows_behind : (two : Bool) {rtc : ℕ} → rtc ≡ line_of RTC_LINE (layout_by (form_by two) true) → Rows (layout_by (form_by two) true) rtc
 rows_behind two e = rw e (rows_in two)
+
+-- the line of `rtc` stands behind that of `unit`, in either form of a day's sheet
+rtc_behind : (two : Bool) → line_of UNIT_LINE (layout_by (form_by two) true) + 1 ≡ line_of RTC_LINE (layout_by (form_by two) true)
+rtc_behind true = refl
+rtc_behind false = refl
+
+pub rows_of : (form : Form) → (two : Bool) × (form ≡ form_by two) → {unit : ℕ} → unit ≡ line_of UNIT_LINE (layout_by form true) → Rows (layout_by form true) (unit + 1)
+rows_of form day e = rw day.1 (rows_behind day.0 (rw (e, day.1) (rtc_behind day.0)))
 
 -- and an ICL's one
 pub icl_row : RowOn (icl_lines true) MARK_LINE ICL_MARKS 2
@@ -160,12 +181,20 @@ clear_counted form s e =
     counted form s (is_count (count_by form s)) (hours_in form s) checks.1
 
 -- ---- a header by the count that was read
-module _ (form : Form) (s : List ℕ) (judged : Bool) (hours : ℕ) (j : judged ≡ is_count (count_by form s)) (h : hours ≡ hours_in form s) where
-  pub head_fault_lem : fault_in form s ≡ layout_fault (layout_by form judged) hours s
+module _ (form : Form) (s : List ℕ) (judged : Bool) {hours : ℕ} (j : judged ≡ is_count (count_by form s)) (h : hours ≡ hours_in form s) where
+  head_fault_lem : fault_in form s ≡ layout_fault (layout_by form judged) hours s
   head_fault_lem = λ i. layout_fault (layout_by form (sym j i)) (sym h i) s
 
-  pub head_next : place_in (line_place (layout_by form judged) hours (length (layout_by form judged)) s) ≡ next_in form clear s
-  head_next = λ i. place_in (line_place (layout_by form (j i)) (h i) (length (layout_by form (j i))) s)
-
-  pub head_judged : fault_in form s ≡ clear → judged ≡ true
-  head_judged e = j ∙ clear_counted form s e
+  -- the rows of one without fault are judged
+  pub head_read : {at : Result (List ℕ) Check} → fault_of at ≡ layout_fault (layout_by form judged) hours s
+      → IfOk at (Placed (layout_by form judged) hours s) → HeadRead form s (record { hours = hours; at = at })
+  head_read {at} told placed = record {
+    hours = h;
+    told = told ∙ sym head_fault_lem;
+    placed = go at told placed;
+  }
+    where
+      go : (at : Result (List ℕ) Check) → fault_of at ≡ layout_fault (layout_by form judged) hours s
+          → IfOk at (Placed (layout_by form judged) hours s) → IfOk at (Placed (layout_by form true) hours s)
+      go (Ok places) t p = rw (← (j ∙ clear_counted form s (head_fault_lem ∙ sym t))) p
+      go (Err check) t p = tt

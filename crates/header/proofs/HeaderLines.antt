@@ -1,19 +1,19 @@
 -- The lines of a header and their places, one by one as the code reads them. A layout is any list of lines.
 use Rattle.std.specs.Prelude.{None, Some}
+use Rattle.std.specs.Option.{unwrap_or}
 use mathlib.Core.Path.{◌≡◌, refl, sym, ◌∙◌, ap}
 use mathlib.Core.Bool.{Bool, true, false, ◌&&◌, false≢true}
 use mathlib.Core.List.{List, [], ◌∷◌}
 use Prim.Native.Nat.{ℕ, zero, suc, ◌+◌, ◌-◌, ◌≤◌, ◌<◌}
-use native.Mathlib.Decide.{dec_le}
 use native.Mathlib.Numerals.{add-one}
 use native.Mathlib.Nat.{add-zero, add-suc}
 use native.Mathlib.Omega.{arith}
-use borrow.Author.Tests.{ltb-true, eq-eqb, ne_eqb}
+use borrow.Author.Tests.{ltb-true}
 use lib.IntN.{ℤ}
-use lib.ListN.{get_or, set, replicate, length, get_or-eq_default}
+use lib.ListN.{get_or, set, replicate, length}
 use Rattle.exact.specs.Whole.{up_to}
 use Rattle.exact.proofs.Tests.{and_left, and_right}
-use Rattle.tariff.specs.Reply.{FORM, RANGE, Verdict, clear, fault, unless, first_of}
+use Rattle.tariff.specs.Reply.{FORM, Verdict, clear, fault, unless, first_of}
 use Rattle.tariff.proofs.Checks.{unless_clear, first_clear, clear_first, fault_first}
 use Rattle.text.specs.Text.{key_at, Next}
 use Rattle.keys.specs.Keys.{KEYS, key_of}
@@ -23,13 +23,17 @@ use Rattle.lines.proofs.Fill.{filled_at, fill_next}
 use Rattle.lines.proofs.Lines.{is_line_lem, fields_read}
 use Rattle.header.specs.declared.layout.Line.{Line}
 use Rattle.header.specs.declared.layout.Line.TheVariants.{Number, Row, Run, Close}
-use Rattle.header.specs.Layout.{line_in, digits_at, row_at, behind_run, said_at, header_line, line_place, line_in_range, layout_form, layout_range, layout_fault}
-use Rattle.header.specs.Places.{is_keyed, Stands, Placed, refused_at}
+use Rattle.header.specs.Layout.{line_in, digits_at, row_at, behind_run, said_at, header_line, line_place, line_in_range, layout_form}
+use Rattle.header.specs.Places.{is_keyed, Stands, Placed}
 
 -- ---- a place that is found
 pub is_at_lem : (x : Next) → is_at x ≡ true → x ≡ Some (place_in x)
 is_at_lem (Some i) e = refl
 is_at_lem None e = absurd (false≢true e)
+
+pub or_zero : (x : Next) → unwrap_or x 0 ≡ place_in x
+or_zero (Some i) = refl
+or_zero None = refl
 
 -- and one behind it
 pub is_at_first : (x : Next) (f : ℕ → Next) → is_at (and_then x f) ≡ true → is_at x ≡ true
@@ -45,30 +49,40 @@ pub keyed_below : {line : Line} {key : ℕ} {least most : ℤ} → line ≡ Numb
 keyed_below {key = key} is e = ltb-true key KEYS (ap is_keyed (sym is) ∙ e)
 
 module _ (hours : ℕ) {line : Line} (s : List ℕ) (at : ℕ) where
-  pub number_line_lem : {key : ℕ} {least most : ℤ} (fields : Fields) {r : Next} → line ≡ Number key least most → is_keyed line ≡ true
-      → fields ≡ fields_at key 1 s at → r ≡ and_then fields.next (line_feed s) → r ≡ header_line hours line s at
+  -- a number is a line of one field
+  pub number_line_lem : {key : ℕ} {least most : ℤ} (fields : Fields) {next r : Next} → line ≡ Number key least most → is_keyed line ≡ true
+      → fields ≡ fields_at key 1 s at → next ≡ fields.next → r ≡ and_then next (line_feed s) → r ≡ header_line hours line s at
   unfolding header_line said_at
-  number_line_lem {key} fields is keyed f e =
+  number_line_lem {key} fields is keyed f n e =
       let below = keyed_below is keyed in
       let read = fields_read key 1 s at fields (is_line_lem key 1 (omega arith) (omega arith)) f in
-      rw is (e ∙ ap (λ (x : Next). and_then x (line_feed s)) read.next)
+      rw is (e ∙ ap (λ (x : Next). and_then x (line_feed s)) (n ∙ read.next))
 
-  pub row_line : {key admitted : ℕ} {start digits r : Next} → line ≡ Row key admitted → start ≡ key_at (key_of key) s at
-      → digits ≡ and_then start (digits_at hours s) → r ≡ and_then digits (line_feed s) → r ≡ header_line hours line s at
+  -- the digits of a row and of a run stand behind a key, where that is found
+  pub row_line : {key admitted start : ℕ} {digits r : Next} → line ≡ Row key admitted → Some start ≡ key_at (key_of key) s at
+      → digits ≡ digits_at hours s start → r ≡ and_then digits (line_feed s) → r ≡ header_line hours line s at
   unfolding header_line said_at row_at
-  row_line is p q e = rw is (e ∙ ap (λ (x : Next). and_then x (line_feed s)) (q ∙ ap (λ (x : Next). and_then x (digits_at hours s)) p))
+  row_line is p q e = rw (is, ← p) (e ∙ ap (λ (x : Next). and_then x (line_feed s)) q)
 
-  pub run_line : {key : ℕ} {start past r : Next} → line ≡ Run key → start ≡ key_at (key_of key) s at
-      → past ≡ and_then start (behind_run s) → r ≡ and_then past (line_feed s) → r ≡ header_line hours line s at
+  pub run_line : {key start : ℕ} {past r : Next} → line ≡ Run key → Some start ≡ key_at (key_of key) s at
+      → past ≡ behind_run s start → r ≡ and_then past (line_feed s) → r ≡ header_line hours line s at
   unfolding header_line said_at
-  run_line is p q e = rw is (e ∙ ap (λ (x : Next). and_then x (line_feed s)) (q ∙ ap (λ (x : Next). and_then x (behind_run s)) p))
+  run_line is p q e = rw (is, ← p) (e ∙ ap (λ (x : Next). and_then x (line_feed s)) q)
+
+  pub no_row : {key admitted : ℕ} → line ≡ Row key admitted → None ≡ key_at (key_of key) s at → header_line hours line s at ≡ None
+  unfolding header_line said_at row_at
+  no_row is p = rw (is, ← p)
+
+  pub no_run : {key : ℕ} → line ≡ Run key → None ≡ key_at (key_of key) s at → header_line hours line s at ≡ None
+  unfolding header_line said_at
+  no_run is p = rw (is, ← p)
 
   -- the closing line is a line feed alone
   pub close_line : line ≡ Close → header_line hours line s at ≡ line_feed s at
   unfolding header_line said_at
   close_line is = rw is
 
--- ---- the first line, from 1, that fails a test, or 0
+-- ---- the first line, from 1, that fails a test
 module _ (test : ℕ → Bool) (number n : ℕ) where
   abbrev pub refusal : ℕ → Verdict
   refusal j = unless (test j) number (suc j)
@@ -80,9 +94,9 @@ module _ (test : ℕ → Bool) (number n : ℕ) where
     passed : (k : ℕ) → k < j → refusal k ≡ clear
     passed k u = rw (before k u)
 
-    pub refused_first : j < n → test j ≡ false → refused_at number (j + 1) ≡ first_of refusal n
+    pub refused_first : j < n → test j ≡ false → fault number (j + 1) ≡ first_of refusal n
     refused_first u e =
-        rw (ne_eqb (j + 1) 0 (λ z. omega arith), add-one j)
+        rw (add-one j)
         (sym (fault_first refusal n number (suc j) (record { at = j; below = u; before = passed; gives = rw e })))
 
     pub refused_none : n ≤ j → clear ≡ first_of refusal n
@@ -105,36 +119,42 @@ module _ (layout : List Line) (hours : ℕ) (s : List ℕ) where
   place_before j zero e = rw add-zero at e
   place_before j (suc d) e = place_before j d (is_at_first (line_place layout hours (j + d) s) _ (rw (add-suc j d) at e))
 
-  -- j lines are read, up to the place i, into an array with room for so many places
-  pub record PlacedTo (room : ℕ) (at : List ℕ) (i j : ℕ) : Type 0 where
+  -- j lines are read, and their places told with that behind them, in an array with room for so many
+  pub record PlacedTo (room : ℕ) (at : List ℕ) (j : ℕ) : Type 0 where
     pub few : j ≤ length layout
-    pub place : line_place layout hours j s ≡ Some i
+    pub found : is_at (line_place layout hours j s) ≡ true
     pub places : at ≡ filled (j + 1) room start_of 0
 
-  pub places_begin : (room : ℕ) → PlacedTo (suc room) (replicate (suc room) 0) 0 0
+  pub places_begin : (room : ℕ) → PlacedTo (suc room) (replicate (suc room) 0) 0
   unfolding line_place up_to
-  places_begin room = let rest : suc room - 1 ≡ room = omega arith in record { few = omega arith; place = refl; places = rw rest }
+  places_begin room = let rest : suc room - 1 ≡ room = omega arith in record { few = omega arith; found = refl; places = rw rest }
 
-  module _ (room : ℕ) (wide : length layout < room) (at : List ℕ) (i j : ℕ) (o : PlacedTo room at i j) where
+  module _ (room : ℕ) (wide : length layout < room) (at : List ℕ) (j : ℕ) (o : PlacedTo room at j) where
     has_place : (k : ℕ) → k ≤ j → is_at (line_place layout hours k s) ≡ true
-    has_place k u = let e : k + (j - k) ≡ j = omega arith in place_before k (j - k) (rw (e, o.place))
+    has_place k u = let e : k + (j - k) ≡ j = omega arith in place_before k (j - k) (rw (e, o.found))
+
+    -- the place of each of them
+    place_told : (k : ℕ) → k ≤ j → line_place layout hours k s ≡ Some (get_or at k 0)
+    place_told k u =
+        is_at_lem (line_place layout hours k s) (has_place k u)
+        ∙ ap Some (filled_at start_of 0 (j + 1) room k (omega arith) ∙ ap (λ (l : List ℕ). get_or l k 0) (sym o.places))
 
     -- the next line
     module _ {line : Line} (is : line ≡ line_in layout j) (u : j < length layout) where
-      line_next : line_place layout hours (suc j) s ≡ header_line hours line s i
+      line_next : line_place layout hours (suc j) s ≡ header_line hours line s (get_or at j 0)
       unfolding line_place
-      line_next = rw (o.place, is)
+      line_next = rw (place_told j (omega arith), is)
 
-      pub places_next : (next : ℕ) → header_line hours line s i ≡ Some next → PlacedTo room (set at (j + 1) next) next (j + 1)
+      pub places_next : (next : ℕ) → header_line hours line s (get_or at j 0) ≡ Some next → PlacedTo room (set at (j + 1) next) (j + 1)
       places_next next e =
           let here = line_next ∙ e in
           record {
             few = omega arith;
-            place = rw (add-one j) here;
+            found = rw (add-one j) (ap is_at here);
             places = fill_next start_of 0 (j + 1) room (omega arith) o.places (sym (ap (λ (k : ℕ). start_of k) (add-one j) ∙ ap place_in here));
           }
 
-      pub line_broken : header_line hours line s i ≡ None → refused_at FORM (j + 1) ≡ layout_form layout hours s
+      pub line_broken : header_line hours line s (get_or at j 0) ≡ None → fault FORM (j + 1) ≡ layout_form layout hours s
       unfolding layout_form
       line_broken e = refused_first is_placed FORM (length layout) j (λ k l. has_place (suc k) l) u (ap is_at (line_next ∙ e))
 
@@ -145,17 +165,7 @@ module _ (layout : List Line) (hours : ℕ) (s : List ℕ) where
       none_broken = refused_none is_placed FORM (length layout) j (λ k l. has_place (suc k) l) all
 
       pub all_placed : Placed layout hours s at
-      all_placed k v =
-          is_at_lem (line_place layout hours k s) (has_place k (omega arith))
-          ∙ ap Some (filled_at start_of 0 (j + 1) room k (omega arith) ∙ ap (λ (l : List ℕ). get_or l k 0) (sym o.places))
-
--- ---- past the closing line, which is the last, there is none but it
-pub close_past : (layout : List Line) (last j : ℕ) → length layout ≡ suc last → line_in layout last ≡ Close → last ≤ j → Close ≡ line_in layout j
-close_past layout last j long close u = go (dec_le (length layout) j)
-  where
-    go : Dec (length layout ≤ j) → Close ≡ line_in layout j
-    go (yes v) = sym (get_or-eq_default layout Close v)
-    go (no v) = let e : last ≡ j = omega arith in sym close ∙ ap (line_in layout) e
+      all_placed k v = place_told k (omega arith)
 
 -- ---- each line's key is one of the table's
 abbrev pub are_keyed : List Line → Bool
@@ -177,15 +187,3 @@ module _ (layout : List Line) (hours : ℕ) (s at : List ℕ) (p : Placed layout
 
   pub range_told : j < length layout → line_in_range hours line s (Some (get_or at j 0)) ≡ is_in_range layout hours s j
   range_told u = rw (is, p j (omega arith))
-
--- ---- the header: its form first, then its ranges
-module _ (layout : List Line) (hours : ℕ) (s : List ℕ) (broken : ℕ) (form : refused_at FORM broken ≡ layout_form layout hours s) where
-  pub form_refuses : (broken ≡ 0 → ⊥) → layout_fault layout hours s ≡ fault FORM broken
-  form_refuses u = rw (← form, ne_eqb broken 0 u)
-
-  module _ (whole : broken ≡ 0) (odd : ℕ) (range : refused_at RANGE odd ≡ layout_range layout hours s) where
-    pub range_refuses : (odd ≡ 0 → ⊥) → layout_fault layout hours s ≡ fault RANGE odd
-    range_refuses u = rw (← form, eq-eqb broken 0 whole, ← range, ne_eqb odd 0 u)
-
-    pub none_refuses : odd ≡ 0 → layout_fault layout hours s ≡ clear
-    none_refuses u = rw (← form, eq-eqb broken 0 whole, ← range, eq-eqb odd 0 u)

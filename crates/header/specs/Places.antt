@@ -1,15 +1,16 @@
 -- The places of a header's lines, as the functions that read it hand them on.
-use Rattle.std.specs.Prelude.{◌≡◌, Bool, true, List, ℕ, ◌≤◌, ltb, eqb, get_or, length, Some}
-use Rattle.tariff.specs.Reply.{FORM, Verdict, clear, unless, shown}
+use Rattle.std.specs.Prelude.{Result, Ok, Err, IfOk, ◌≡◌, Bool, true, List, ℕ, ◌-◌, ◌<◌, ◌≤◌, ltb, get_or, length, Some}
+use Rattle.tariff.specs.declared.Check.{Check}
+use Rattle.tariff.specs.Reply.{Verdict, clear, fault, number_of, place_of}
+use Rattle.text.specs.Text.{ZERO}
 use Rattle.keys.specs.Keys.{KEYS}
 use Rattle.lines.specs.Line.{is_at, and_then, line_feed}
 use Rattle.header.specs.declared.layout.Form.{Form}
 use Rattle.header.specs.declared.layout.Line.{Line}
 use Rattle.header.specs.declared.layout.Line.TheVariants.{Number, Row, Run, Close}
 use Rattle.header.specs.declared.heads.Head.{Head}
-use Rattle.header.specs.declared.heads.Places.{Places}
-use Rattle.header.specs.Layout.{row_at, header_line, line_place, layout_form}
-use Rattle.header.specs.Header.{layout_by, hours_in, fault_in, next_in}
+use Rattle.header.specs.Layout.{row_at, header_line, line_place, digit_from}
+use Rattle.header.specs.Header.{layout_by, hours_in, fault_in}
 
 -- a line's key is one of the table's
 abbrev pub is_keyed : Line → Bool
@@ -31,17 +32,18 @@ RowStands hours key s at = is_at (and_then (row_at hours key s at) (line_feed s)
 abbrev pub Placed : (layout : List Line) → (hours : ℕ) → List ℕ → List ℕ → Type 0
 Placed layout hours s at = (j : ℕ) → j ≤ length layout → line_place layout hours j s ≡ Some (get_or at j 0)
 
--- a check that refuses a line, from 1, or none where that is 0
-abbrev pub refused_at : (number line : ℕ) → Verdict
-refused_at number line = unless (eqb line 0) number line
+-- the digits of a row, one for each hour
+pub record RowRead (hours key : ℕ) (s : List ℕ) (at : ℕ) (row : List ℕ) : Type 0 where
+  pub long : length row ≡ hours
+  pub digits : (h : ℕ) → h < hours → (ZERO ≤ get_or row h 0) × (get_or row h 0 - ZERO ≡ digit_from key s (Some at) h)
 
-pub record PlacesRead (layout : List Line) (hours : ℕ) (s : List ℕ) (r : Places) : Type 0 where
-  pub told : refused_at FORM r.broken ≡ layout_form layout hours s
-  pub placed : r.broken ≡ 0 → Placed layout hours s r.at
+-- what refuses, where the code has found something or else a fault
+abbrev pub fault_of : {A : Type 0} → Result A Check → Verdict
+fault_of (Ok a) = clear
+fault_of (Err check) = fault (number_of check) (place_of check)
 
 -- a header of a form, as it is read; its rows are judged where it has no fault
 pub record HeadRead (form : Form) (s : List ℕ) (r : Head) : Type 0 where
-  pub fault : shown r.found ≡ fault_in form s
   pub hours : r.hours ≡ hours_in form s
-  pub next : r.next ≡ next_in form (fault_in form s) s
-  pub placed : fault_in form s ≡ clear → Placed (layout_by form true) r.hours s r.at
+  pub told : fault_of r.at ≡ fault_in form s
+  pub placed : IfOk r.at (Placed (layout_by form true) r.hours s)

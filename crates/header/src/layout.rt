@@ -1,8 +1,8 @@
 // The lines of a header as data, in each form: a day's sheet has two, and the day of an internal controllable line (ICL) has its own.
 ghost use Rattle.std.specs.Prelude.{◌≡◌, true, ◌≤◌, length};
-ghost use Rattle.keys.specs.Keys.{UNIT_LINE, RTC_LINE};
+ghost use Rattle.keys.specs.Keys.{UNIT_LINE};
 ghost use Rattle.header.specs.Layout.{line_in, line_of};
-ghost use Rattle.header.specs.Header.{row, unit_and_marks, form_by, layout_by};
+ghost use Rattle.header.specs.Header.{row, unit_and_marks, layout_by};
 
 // Which lines a header has to have.
 #[derive(Clone, Copy)]
@@ -32,6 +32,20 @@ pub const ICL_MARKS: u32 = 7;
 // The most places that a header's lines have, with that behind the last: form 2 has twelve lines.
 pub const PLACES: usize = 13;
 
+// The lines from `unit` on, which both forms of a day's sheet have, with rows that are judged.
+static UNIT_AND_MARKS: [Line; 10] = [
+    Line::Number(keys::UNIT_LINE, 1, 9999999),
+    Line::Number(keys::RTC_LINE, 0, 1),
+    Line::Row(keys::CAT_LINE, CATEGORIES),
+    Line::Row(keys::X1_LINE, MARKS),
+    Line::Row(keys::X2_LINE, MARKS),
+    Line::Row(keys::X3_LINE, MARKS),
+    Line::Row(keys::X4_LINE, MARKS),
+    Line::Row(keys::X5_LINE, MARKS),
+    Line::Row(keys::X6_LINE, MARKS),
+    Line::Close,
+];
+
 // A row of marks: unjudged where no day has as many hours as the header says.
 fn row_of(judged: bool, key: usize, admitted: u32) -> Line
     ensures { result ≡ row judged key admitted }
@@ -43,75 +57,70 @@ fn row_of(judged: bool, key: usize, admitted: u32) -> Line
     }
 }
 
-// Line j, from 0, of those from `unit` on, which both forms have.
+// Line j, from 0, of those from `unit` on. Past the closing line there is none but it.
 fn common_line(judged: bool, j: usize) -> Line
     ensures { result ≡ line_in (unit_and_marks judged) j }
 {
-    match j {
-        0 => Line::Number(keys::UNIT_LINE, 1, 9999999),
-        1 => Line::Number(keys::RTC_LINE, 0, 1),
-        2 => row_of(judged, keys::CAT_LINE, CATEGORIES),
-        3 => row_of(judged, keys::X1_LINE, MARKS),
-        4 => row_of(judged, keys::X2_LINE, MARKS),
-        5 => row_of(judged, keys::X3_LINE, MARKS),
-        6 => row_of(judged, keys::X4_LINE, MARKS),
-        7 => row_of(judged, keys::X5_LINE, MARKS),
-        8 => row_of(judged, keys::X6_LINE, MARKS),
-        _ => Line::Close,
+    if UNIT_AND_MARKS.len() <= j {
+        return Line::Close;
+    }
+    match UNIT_AND_MARKS[j] {
+        Line::Row(key, admitted) => row_of(judged, key, admitted),
+        line => line,
     }
 }
 
-// The form of a day's sheet.
-pub fn form_by(two: bool) -> Form
-    ensures { result ≡ form_by two }
-{
-    if two { Form::Two } else { Form::One }
-}
-
-// Line j, from 0.
-pub fn line_of(form: Form, judged: bool, j: usize) -> Line
-    ensures { result ≡ line_in (layout_by form judged) j }
+// The line of `unit`, from 0: form 2 has a line more in front of it. An ICL's header has none, and then it is the count of its lines.
+pub fn unit_line(form: Form) -> usize
+    ensures { (result ≡ line_of UNIT_LINE (layout_by form true)) × (result ≤ 4) }
 {
     match form {
-        Form::One => match j {
-            0 => Line::Number(keys::FORM_LINE, 1, 1),
-            _ => common_line(true, j - 1),
-        },
-        Form::Two => match j {
-            0 => Line::Number(keys::FORM_LINE, 2, 2),
-            1 => Line::Number(keys::HOURS_LINE, 23, 25),
-            _ => common_line(judged, j - 2),
-        },
-        Form::Icl => match j {
-            0 => Line::Number(keys::LINE_LINE, 1, 9999999),
-            1 => Line::Number(keys::HOURS_LINE, 23, 25),
-            2 => row_of(judged, keys::MARK_LINE, ICL_MARKS),
-            _ => Line::Close,
-        },
-    }
-}
-
-// How many lines there are.
-pub fn lines_of(form: Form, judged: bool) -> usize
-    ensures { result ≡ length (layout_by form judged) }
-{
-    match form {
-        Form::One => 11,
-        Form::Two => 12,
+        Form::One => 1,
+        Form::Two => 2,
         Form::Icl => 4,
     }
 }
 
-// The line of `unit`, from 0: form 2 has a line more in front of it.
-pub fn unit_line(two: bool) -> usize
-    ensures { (result ≡ line_of UNIT_LINE (layout_by (form_by two) true)) × (result ≤ 2) }
-{
-    if two { 2 } else { 1 }
+// A header's lines: those of its form, with rows that are judged or not, and as long as its day has hours.
+#[derive(Clone, Copy)]
+pub struct Layout {
+    pub form: Form,
+    pub judged: bool,
+    pub hours: usize,
 }
 
-// The line of `rtc`, from 0, behind which the rows of marks stand.
-pub fn rtc_line(two: bool) -> usize
-    ensures { (result ≡ line_of RTC_LINE (layout_by (form_by two) true)) × (result ≤ 3) }
-{
-    if two { 3 } else { 2 }
+impl Layout {
+    // Line j, from 0.
+    pub fn line(self, j: usize) -> Line
+        ensures { result ≡ line_in (layout_by self.form self.judged) j }
+    {
+        match self.form {
+            Form::One => match j {
+                0 => Line::Number(keys::FORM_LINE, 1, 1),
+                _ => common_line(true, j - 1),
+            },
+            Form::Two => match j {
+                0 => Line::Number(keys::FORM_LINE, 2, 2),
+                1 => Line::Number(keys::HOURS_LINE, 23, 25),
+                _ => common_line(self.judged, j - 2),
+            },
+            Form::Icl => match j {
+                0 => Line::Number(keys::LINE_LINE, 1, 9999999),
+                1 => Line::Number(keys::HOURS_LINE, 23, 25),
+                2 => row_of(self.judged, keys::MARK_LINE, ICL_MARKS),
+                _ => Line::Close,
+            },
+        }
+    }
+
+    // How many lines there are.
+    pub fn lines(self) -> usize
+        ensures { result ≡ length (layout_by self.form self.judged) }
+    {
+        match self.form {
+            Form::One => 11,
+            Form::Two => 12,
+            Form::Icl => 4,
+        }
+    }
 }

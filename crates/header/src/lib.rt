@@ -5,7 +5,7 @@
 ghost use Rattle.std.specs.Prelude.{◌≡◌};
 ghost use Rattle.tariff.specs.Reply.{shown};
 ghost use Rattle.marks.specs.Word.{word};
-ghost use Rattle.header.specs.Header.{header_fault, is_form2, hours_of, unit_line, marks_under, unit_under};
+ghost use Rattle.header.specs.Header.{header_fault, is_form2, form_of, hours_of, unit_line, marks_under, unit_under};
 ghost use Rattle.header.specs.IclHeader.{icl_header_fault, icl_hours_of, icl_unmarked_under, icl_next_under};
 
 use crate::layout::Form;
@@ -42,28 +42,26 @@ pub fn read_header(s: &[u8]) -> Header
     ensures unit { result.unit ≡ unit_under (header_fault s.now) s.now }
     ensures line { result.line ≡ unit_line s.now }
 {
-    let two = is_form2(s);
-    let head = heads::head_of(s, layout::form_by(two));
-    let found = head.found;
+    let form = form_of(s);
+    let head = heads::head_of(s, form);
     let hours = head.hours;
-    let unit = layout::unit_line(two);
+    let unit = layout::unit_line(form);
     let line = unit + 1;
-    if let Err(_) = found {
-        return Header {
-            found,
+    match head.at {
+        Ok(at) => Header {
+            found: Ok(()),
+            marks: heads::marks_of(s, at, form, hours),
+            hours,
+            unit: heads::number_of(s, at[unit], keys::UNIT_LINE),
+            line,
+        },
+        Err(check) => Header {
+            found: Err(check),
             marks: marks::no_marks(),
             hours,
             unit: 0,
             line,
-        };
-    }
-    let at = head.at;
-    Header {
-        found,
-        marks: heads::marks_of(s, at, two, hours),
-        hours,
-        unit: heads::number_of(s, at[unit], keys::UNIT_LINE),
-        line,
+        },
     }
 }
 
@@ -76,23 +74,20 @@ pub fn read_icl_header(s: &[u8]) -> IclHeader
     ensures next { result.next ≡ icl_next_under (icl_header_fault s.now) s.now }
 {
     let head = heads::head_of(s, Form::Icl);
-    let found = head.found;
     let hours = head.hours;
-    let next = head.next;
-    if let Err(_) = found {
-        return IclHeader {
-            found,
+    match head.at {
+        Ok(at) => IclHeader {
+            found: Ok(()),
+            unmarked: heads::row_word(s, at[2], keys::MARK_LINE, hours, 0),
+            hours,
+            next: at[4],
+        },
+        Err(check) => IclHeader {
+            found: Err(check),
             unmarked: rows::every_hour(hours),
             hours,
-            next,
-        };
-    }
-    let at = head.at;
-    IclHeader {
-        found,
-        unmarked: heads::row_word(s, at[2], keys::MARK_LINE, hours, 0),
-        hours,
-        next,
+            next: 0,
+        },
     }
 }
 
@@ -100,5 +95,12 @@ pub fn read_icl_header(s: &[u8]) -> IclHeader
 pub fn is_form2(s: &[u8]) -> bool
     ensures { result ≡ is_form2 s.now }
 {
-    heads::is_number(heads::number_of(s, 0, keys::FORM_LINE), 2)
+    heads::number_of(s, 0, keys::FORM_LINE) == 2
+}
+
+// The form that a sheet's first line says.
+fn form_of(s: &[u8]) -> Form
+    ensures { result ≡ form_of s.now }
+{
+    if is_form2(s) { Form::Two } else { Form::One }
 }

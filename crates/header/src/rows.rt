@@ -1,92 +1,70 @@
 // Rows of marks, over the count of a day's hours: a day on which the clock changes has another count.
-ghost use Rattle.std.specs.Prelude.{◌≡◌, true, ◌+◌, ◌<◌, ◌≤◌, eqb, length, Some};
-ghost use Rattle.tariff.specs.Eligible.{marked};
-ghost use Rattle.text.specs.Number.{digit_at};
-ghost use Rattle.lines.specs.Line.{and_then, filled};
-ghost use Rattle.marks.specs.Word.{word};
+ghost use Rattle.std.specs.Prelude.{◌≡◌, true, ◌-◌, ◌<◌, ◌≤◌, eqb, drop, length, slice_index, EachIndex, Some};
+ghost use Rattle.std.specs.Char.{is_ascii_digit};
+ghost use Rattle.std.specs.List.{take_while};
 ghost use Rattle.tariff.specs.Sheet.{LONGEST_DAY, all_to};
+ghost use Rattle.tariff.specs.Eligible.{marked};
+ghost use Rattle.text.specs.Text.{ZERO};
+ghost use Rattle.lines.specs.Line.{filled};
+ghost use Rattle.marks.specs.Word.{word};
 ghost use Rattle.header.specs.Layout.{digits_at, behind_run};
 
 // The place after a digit for each hour.
+#[tactic(auto, using(text::proofs::Numbers::digits_said, crate::proofs::Digits::digits_steps))]
 pub fn digits_at(s: &[u8], at: usize, hours: usize) -> Option<usize>
     ensures { result ≡ digits_at hours s.now at }
 {
-    let mut i = at;
-    let mut count: usize = 0;
-    while count < hours {
-        if text::digit_at(s, i) == 10 {
-            return None;
-        }
-        i += 1;
-        count += 1;
+    let mut next = at;
+    for _ in 0..hours {
+        text::digit_at(s, next)?;
+        next += 1;
     }
-    Some(i)
+    Some(next)
 }
 
-// The same behind a key, where that was found.
-pub fn digits_after(s: &[u8], next: Option<usize>, hours: usize) -> Option<usize>
-    ensures { result ≡ and_then next (digits_at hours s.now) }
+// How many digits stand from a place on.
+fn run_of(s: &[u8], at: usize) -> usize
+    ensures { result ≡ length (take_while is_ascii_digit (drop at s.now)) }
 {
-    match next {
-        Some(at) => digits_at(s, at, hours),
-        None => None,
-    }
+    s.iter().skip(at).take_while(|b| b.is_ascii_digit()).count()
 }
 
-// The place behind the digits from a place on, however many there are.
+// The place behind them.
+#[tactic(auto, using(crate::proofs::Digits::run_behind, crate::proofs::Digits::run_inside))]
 pub fn run_at(s: &[u8], at: usize) -> usize
     ensures { Some result ≡ behind_run s.now at }
 {
-    let mut i = at;
-    while i < s.len() {
-        if text::digit_at(s, i) == 10 {
-            return i;
-        }
-        i += 1;
-    }
-    i
-}
-
-// The same behind a key, where that was found.
-pub fn run_after(s: &[u8], next: Option<usize>) -> Option<usize>
-    ensures { result ≡ and_then next (behind_run s.now) }
-{
-    match next {
-        Some(at) => Some(run_at(s, at)),
-        None => None,
-    }
+    at + run_of(s, at)
 }
 
 // Whether each hour's digit is one of those that a word admits, digit d by bit d.
-pub fn all_admitted(s: &[u8], at: usize, hours: usize, admitted: u32) -> bool
-    requires { at + hours ≤ length s.now }
-    ensures { result ≡ all_to (λ h. marked admitted (digit_at s.now (at + h))) hours }
+#[tactic(auto, using(tariff::proofs::Tests::all_none, tariff::proofs::Tests::all_next))]
+pub fn all_admitted(row: &[u8], admitted: u32) -> bool
+    requires { EachIndex row.now (λ h. ZERO ≤ slice_index row.now h) }
+    ensures { result ≡ all_to (λ h. marked admitted (slice_index row.now h - ZERO)) (length row.now) }
 {
-    let mut h: usize = 0;
-    while h < hours {
-        let digit = text::digit_at(s, at + h);
-        if !marks::is_marked(admitted, digit as u32) {
+    for b in row {
+        if !marks::is_marked(admitted, u32::from(*b - b'0')) {
             return false;
         }
-        h += 1;
     }
     true
 }
 
 // The hours whose digit is `digit`, as a word.
-pub fn word_at(s: &[u8], at: usize, hours: usize, digit: u64) -> u32
-    requires { (hours < 32) × (at + hours ≤ length s.now) }
-    ensures { result ≡ word hours (λ h. eqb (digit_at s.now (at + h)) digit) }
+#[tactic(auto, using(marks::proofs::Rows::word_none, marks::proofs::Rows::fill, marks::proofs::Rows::skip))]
+pub fn word_of(row: &[u8], digit: u8) -> u32
+    requires few { length row.now < 32 }
+    requires digits { EachIndex row.now (λ h. ZERO ≤ slice_index row.now h) }
+    ensures { result ≡ word (length row.now) (λ h. eqb (slice_index row.now h - ZERO) digit) }
 {
-    let mut row: u32 = 0;
-    let mut h: usize = 0;
-    while h < hours {
-        if text::digit_at(s, at + h) == digit {
-            row |= 1 << h;
+    let mut word = 0;
+    for (h, b) in row.iter().enumerate() {
+        if *b - b'0' == digit {
+            word |= 1 << h;
         }
-        h += 1;
     }
-    row
+    word
 }
 
 // Each hour of the day.
@@ -98,15 +76,15 @@ pub fn every_hour(hours: usize) -> u32
 }
 
 // The digits themselves, in an array for the longest day.
-pub fn cat_at(s: &[u8], at: usize, hours: usize) -> [u8; tariff::LONGEST_DAY]
-    requires { (hours ≤ LONGEST_DAY) × (at + hours ≤ length s.now) }
-    ensures { result ≡ filled hours LONGEST_DAY (λ h. digit_at s.now (at + h)) 0 }
+#[tactic(auto, using(lines::proofs::Fill::fill_next), unfolding(exact::specs::Whole::up_to))]
+pub fn categories(row: &[u8]) -> [u8; tariff::LONGEST_DAY]
+    requires few { length row.now ≤ LONGEST_DAY }
+    requires digits { EachIndex row.now (λ h. ZERO ≤ slice_index row.now h) }
+    ensures { result ≡ filled (length row.now) LONGEST_DAY (λ h. slice_index row.now h - ZERO) 0 }
 {
     let mut cat = [0u8; tariff::LONGEST_DAY];
-    let mut h: usize = 0;
-    while h < hours {
-        cat[h] = text::digit_at(s, at + h) as u8;
-        h += 1;
+    for (h, b) in row.iter().enumerate() {
+        cat[h] = *b - b'0';
     }
     cat
 }

@@ -72,42 +72,16 @@ pub const UOL: usize = 23;
 pub fn may_miss(k: usize) -> bool
     ensures { result ≡ may_miss k }
 {
-    if k == EOP {
-        return true;
-    }
-    k == UOL
+    matches!(k, EOP | UOL)
 }
 
 // Key k at a place. A number past the table's is the empty key, which stands anywhere.
 pub fn key_number(s: &[u8], at: usize, k: usize) -> Option<usize>
     ensures { result ≡ key_at (key_of k) s.now at }
 {
-    if k < INTERVAL {
-        if k < DA {
-            return table::ahead_key(s, at, k);
-        }
-        return table::curve_key(s, at, k - DA);
-    }
-    if k < RESERVES {
-        return table::energy_key(s, at, k - INTERVAL);
-    }
-    if k < IMPORT {
-        if k < REGULATION {
-            return table::reserve_key(s, at, k - RESERVES);
-        }
-        return table::regulation_key(s, at, k - REGULATION);
-    }
-    if k < HEADER {
-        if k < CURTAILED {
-            return table::import_key(s, at, k - IMPORT);
-        }
-        return table::curtailed_key(s, at, k - CURTAILED);
-    }
-    if k < LINE_LINE {
-        return table::header_key(s, at, k - HEADER);
-    }
     if k < KEYS {
-        return table::icl_key(s, at, k - LINE_LINE);
+        text::key_at(s, at, table::TABLE[k])
+    } else {
+        Some(at)
     }
-    Some(at)
 }

@@ -60,7 +60,7 @@ pub fn read_neighbour(text: &[u8], at: usize) -> Head
     requires { at ≤ length text.now }
     ensures { NeighbourRead (drop at text.now) result }
 {
-    if text::byte_at(text, at) == 10 {
+    if text::byte_at(text, at) == Some(b'\n') {
         return Head {
             lacking: true,
             found: Ok(()),

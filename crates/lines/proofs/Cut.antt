@@ -6,7 +6,7 @@ use Prim.Native.Nat.{ℕ, ◌+◌, ◌≤◌, ◌<◌}
 use native.Mathlib.Numerals.{add-one}
 use native.Mathlib.Nat.{add-zero, add_assoc}
 use native.Mathlib.Omega.{arith}
-use borrow.Author.Tests.{eqb-true}
+use borrow.Author.Tests.{eqb-true, eq-eqb, ne_eqb}
 use lib.Dec.{eqb, lit<}
 use lib.ListN.{length, get_or, drop, length-drop, drop_of_length-le}
 use lib.Seq.{drop-cons, drop-drop}
@@ -19,25 +19,31 @@ use Rattle.lines.proofs.Agree.{either}
 use Rattle.lines.proofs.Along.{never_at}
 
 -- ---- the byte at a place, and the rest of the text
-module _ (s : List ℕ) (i : ℕ) where
-  module _ (h : i < length s) where
-    pub empty_here : (start : Bool) → eqb (get_or s i 0) 10 ≡ true → start ≡ true → empty_in start (drop i s) i ≡ Some (i + 1)
-    unfolding empty_in
-    empty_here start e f = rw (drop-cons s i 0 h, e, f)
-
-    pub empty_later : (start : Bool) → eqb (get_or s i 0) 10 ≡ true → start ≡ false
-        → empty_in start (drop i s) i ≡ empty_in (eqb (get_or s i 0) 10) (drop (i + 1) s) (i + 1)
-    unfolding empty_in
-    empty_later start e f = rw (drop-cons s i 0 h, e, f, add-one i)
-
-    pub not_empty : (start : Bool) → eqb (get_or s i 0) 10 ≡ false
-        → empty_in start (drop i s) i ≡ empty_in (eqb (get_or s i 0) 10) (drop (i + 1) s) (i + 1)
-    unfolding empty_in
-    not_empty start e = rw (drop-cons s i 0 h, e, add-one i)
-
-  pub never_empty : (start : Bool) → length s ≤ i → empty_in start (drop i s) i ≡ None
+module _ (s : List ℕ) (n i : ℕ) (start : Bool) where
+  pub empty_here : n < length s → get_or s n 0 ≡ 10 → start ≡ true → empty_in start (drop n s) i ≡ Some (i + 1)
   unfolding empty_in
-  never_empty start h = rw (drop_of_length-le s h)
+  empty_here h e f = rw (drop-cons s n 0 h, eq-eqb _ _ e, f)
+
+  pub empty_later : n < length s → get_or s n 0 ≡ 10 → start ≡ false → empty_in start (drop n s) i ≡ empty_in true (drop (n + 1) s) (i + 1)
+  unfolding empty_in
+  empty_later h e f = rw (drop-cons s n 0 h, eq-eqb _ _ e, f, add-one n)
+
+  pub not_empty : n < length s → (get_or s n 0 ≡ 10 → ⊥) → empty_in start (drop n s) i ≡ empty_in false (drop (n + 1) s) (i + 1)
+  unfolding empty_in
+  not_empty h e = rw (drop-cons s n 0 h, ne_eqb _ _ e, add-one n)
+
+  -- a byte that ends no empty line is passed
+  pub passes : (j : ℕ) → j ≡ i + 1 → n < length s → (get_or s n 0 ≡ 10 → start ≡ false)
+      → empty_in start (drop n s) i ≡ empty_in (eqb (get_or s n 0) 10) (drop (n + 1) s) j
+  passes j e h later =
+      rw e
+      (by_test (eqb (get_or s n 0) 10) (λ b. empty_in start (drop n s) i ≡ empty_in b (drop (n + 1) s) (i + 1))
+      (λ f. empty_later h (eqb-true _ 10 f) (later (eqb-true _ 10 f)))
+      (λ f. not_empty h (λ g. false≢true (sym f ∙ eq-eqb _ 10 g))))
+
+  pub never_empty : length s ≤ n → empty_in start (drop n s) i ≡ None
+  unfolding empty_in
+  never_empty h = rw (drop_of_length-le s h)
 
 -- ---- where the first empty line of the bytes t ends: behind its line feed, which is the first byte or stands behind another
 

@@ -6,7 +6,6 @@ use mathlib.Core.List.{List}
 use Prim.Native.Nat.{ℕ, zero, suc, ◌+◌, ◌≤◌, ◌<◌}
 use native.Mathlib.Nat.{add-zero, zero-add}
 use native.Mathlib.Omega.{arith}
-use borrow.Author.Tests.{eq-eqb, ne_eqb}
 use lib.Dec.{lit<}
 use lib.ListN.{length, get_or, drop}
 use Rattle.text.specs.Text.{byte_at, Next}
@@ -27,7 +26,7 @@ module _ (s : List ℕ) where
   feed_empty x k e =
       let end = feed_ends s x k e in
       let h = byte_inside s x 10 end.0 (lit< tt) in
-      empty_here s x h true (eq-eqb (get_or s x 0) 10 (sym (at_byte x h) ∙ end.0)) refl ∙ ap Some end.1
+      empty_here s x x true h (sym (at_byte x h) ∙ end.0) refl ∙ ap Some end.1
 
   -- bytes that are no line feed are passed, and the one behind them
   pub pass : (x i : ℕ) (start : Bool) → ((m : ℕ) → m < x → byte_at s (i + m) ≡ 10 → ⊥) → byte_at s (i + x) ≡ 10 → (x ≡ 0 → start ≡ false)
@@ -35,16 +34,13 @@ module _ (s : List ℕ) where
   pass zero i start none feed begun =
       let here = rw (add-zero i) at feed in
       let h = byte_inside s i 10 here (lit< tt) in
-      let e = eq-eqb (get_or s i 0) 10 (sym (at_byte i h) ∙ here) in
-      rw (add-zero i) (empty_later s i h start e (begun refl) ∙ ap (λ (b : Bool). empty_in b (drop (i + 1) s) (i + 1)) e)
+      rw (add-zero i) (empty_later s i i start h (sym (at_byte i h) ∙ here) (begun refl))
   pass (suc x) i start none feed begun =
       let inside = byte_inside s (i + suc x) 10 feed (lit< tt) in
       let h : i < length s = omega arith in
-      let e = ne_eqb (get_or s i 0) 10 (λ z. none 0 (omega arith) (ap (byte_at s) (add-zero i) ∙ at_byte i h ∙ z)) in
       let on : i + suc x ≡ i + 1 + x = omega arith in
       let further : (m : ℕ) → m < x → byte_at s (i + 1 + m) ≡ 10 → ⊥ = λ m l z. none (suc m) (omega arith) (let q : i + suc m ≡ i + 1 + m = omega arith in ap (byte_at s) q ∙ z) in
-      not_empty s i h start e
-      ∙ ap (λ (b : Bool). empty_in b (drop (i + 1) s) (i + 1)) e
+      not_empty s i i start h (λ z. none 0 (omega arith) (ap (byte_at s) (add-zero i) ∙ at_byte i h ∙ z))
       ∙ pass x (i + 1) false further (rw on at feed) (λ z. refl)
       ∙ ap (λ (k : ℕ). empty_in true (drop (k + 1) s) (k + 1)) (sym on)
 

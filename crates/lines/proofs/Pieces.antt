@@ -9,11 +9,16 @@ use native.Mathlib.Numerals.{one-add}
 use native.Mathlib.Omega.{arith}
 use lib.ListN.{length, drop, take, length-drop, drop_of_length-le}
 use lib.Seq.{take_all, drop-cons, drop-length, get_or-take, get_or-drop}
+use Rattle.std.specs.Option.{unwrap_or}
 use Rattle.text.specs.Text.{byte_at, Next}
 use Rattle.lines.specs.Cut.{empty_in, behind}
 use Rattle.lines.specs.Pieces.{rest_after, or_end, piece_after, up_to_place, first_piece, is_some}
 use Rattle.lines.proofs.Along.{closing, Along}
 use Rattle.lines.proofs.Cut.{EmptyAt, at_once, behind_line, empty_found, behind_range, behind_at, behind_none_lem}
+
+pub or_end_is : (x : Next) (s : List ℕ) → unwrap_or x (length s) ≡ or_end x s
+or_end_is (Some i) s = refl
+or_end_is None s = refl
 
 -- ---- the place behind a piece that begins at a place, as the code looks for it, and whether bytes stand there
 

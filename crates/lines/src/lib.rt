@@ -12,6 +12,9 @@ mod field;
 // Of a piece so many bytes decide, as specs/Pieces.antt has it.
 pub const PIECE: usize = 10640;
 
+// No line has more fields.
+const WIDTH: usize = 20;
+
 // The values of a line's fields, and the place after them.
 #[derive(Clone, Copy)]
 pub struct Fields {
@@ -23,54 +26,34 @@ pub struct Fields {
 pub fn fields_at(s: &[u8], at: usize, first: usize, count: usize) -> Fields
     ensures { result ≡ fields_at first count s.now at }
 {
-    if 20 < count {
-        return field::no_fields();
+    let mut values = [0i64; WIDTH];
+    if WIDTH < count || keys::KEYS - count < first {
+        return Fields { next: None, values };
     }
-    if keys::KEYS - count < first {
-        return field::no_fields();
-    }
-    field::each_at(s, at, first, count)
+    let next = field::each_at(s, at, first, &mut values[..count]);
+    Fields { next, values }
 }
 
 // The end of the line, where its fields were as printed.
 pub fn line_end(s: &[u8], next: Option<usize>) -> Option<usize>
     ensures { result ≡ and_then next (line_feed s.now) }
 {
-    match next {
-        Some(at) => text::key_at(s, at, b"\n"),
-        None => None,
-    }
+    text::key_at(s, next?, b"\n")
 }
 
 // A block ends at the end of input or at an empty line.
+#[tactic(auto, using(text::proofs::Numbers::byte_none, text::proofs::Numbers::byte_read), unfolding(crate::specs::Line::closes))]
 pub fn is_closed(s: &[u8], at: usize) -> bool
     ensures { result ≡ closes s.now at }
 {
-    let b = text::byte_at(s, at);
-    if b == 256 {
-        return true;
-    }
-    if b == 10 { true } else { false }
+    matches!(text::byte_at(s, at), None | Some(b'\n'))
 }
 
 // Whether the first n bytes end with an empty line, so that the block in front is whole.
 pub fn is_whole(text: &[u8], n: usize) -> bool
     ensures { result ≡ ends_empty text.now n }
 {
-    if n == 0 {
-        return false;
-    }
-    if text::byte_at(text, n - 1) != 10 {
-        return false;
-    }
-    if n == 1 {
-        return true;
-    }
-    if text::byte_at(text, n - 2) == 10 {
-        true
-    } else {
-        false
-    }
+    matches!(text.get(..n), Some([b'\n'] | [.., b'\n', b'\n']))
 }
 
 // The place behind the first empty line from a place on; `start` says that a line begins there.
@@ -78,27 +61,20 @@ pub fn empty_line(s: &[u8], at: usize, start: bool) -> Option<usize>
     ensures { result ≡ empty_in start (drop at s.now) at }
 {
     let mut begins = start;
-    let mut i = at;
-    while i < s.len() {
-        let feed = s[i] == 10;
-        if feed {
-            if begins {
-                return Some(i + 1);
-            }
+    for (n, b) in s.get(at..)?.iter().enumerate() {
+        let feed = *b == b'\n';
+        if feed && begins {
+            return Some(at + n + 1);
         }
         begins = feed;
-        i += 1;
     }
     None
 }
 
 // The place behind the piece that begins at a place: after its empty line, or the text's end.
+#[tactic(auto, using(crate::proofs::Pieces::or_end_is), unfolding(crate::specs::Pieces::piece_after))]
 pub fn piece_after(s: &[u8], at: usize) -> usize
     ensures { result ≡ piece_after s.now at }
 {
-    let next = empty_line(s, at, true);
-    match next {
-        Some(i) => i,
-        None => s.len(),
-    }
+    empty_line(s, at, true).unwrap_or(s.len())
 }

@@ -9,7 +9,7 @@ pub one_byte_at : OneReply byte_at.Post
 one_byte_at κ a r s u v p q = one r s p q
 
 pub one_digit_at : OneReply digit_at.Post
-one_digit_at κ a r s u v p q = one r s p.0 q.0
+one_digit_at κ a r s u v p q = one r s p q
 
 pub one_number_at : OneReply number_at.Post
 one_number_at κ a r s u v p q = one r s p q

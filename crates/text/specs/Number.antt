@@ -15,6 +15,10 @@ is_numeral b = ltb (digit_of b) NO_DIGIT
 unfoldable pub digit_at : List ℕ → ℕ → ℕ
 digit_at s at = digit_of (byte_at s at)
 
+-- the same, as the digit or none
+abbrev pub digit_said : List ℕ → ℕ → Option ℕ
+digit_said s at = if eqb (digit_at s at) NO_DIGIT then None else Some (digit_at s at)
+
 -- what digits say and the place after them, or none
 abbrev pub Digits : Type 0
 Digits = Option (ℕ × ℕ)

@@ -1,28 +1,18 @@
 -- `heads::count_of` is the usual day's count in form 1, and in any other the number on its second line.
-use mathlib.Core.Path.{sym, ◌∙◌, ap}
-use mathlib.Core.Bool.{false}
+use mathlib.Core.Path.{◌≡◌, sym, ◌∙◌}
+use mathlib.Core.Bool.{false≢true}
+use borrow.Author.Rules.{rules}
 use Rattle.exact.proofs.Calls.{handed}
-use Rattle.header.specs.declared.layout.Form.{Form}
-use Rattle.header.specs.Header.{layout_by, count_by}
-use Rattle.header.specs.Places.{is_keyed}
-use Rattle.header.proofs.HeaderLines.{line_keyed}
-use Rattle.header.proofs.Forms.{lines_keyed, count_second}
+use Rattle.keys.specs.Keys.{HOURS_LINE}
+use Rattle.header.specs.declared.layout.Form.TheVariants.{One}
+use Rattle.header.specs.Layout.{number_from}
+use Rattle.header.proofs.Forms.{count_second}
 use Rattle.header.proofs.heads.count_of.Goals as goal
+use Rattle.header.proofs.heads.count_of.Goals.{in-One, in_default}
 
-pub returns-in-One : goal.returns-in-One
-returns-in-One c = let a = c.args in ap (λ (form : Form). count_by form a.s.now) (sym c.in-One.is)
-
-pub line_at-requires : goal.line_at-requires
-line_at-requires c =
-    let form = c.args.form in
-    ap is_keyed c.line_of.ensures ∙ line_keyed (layout_by form false) 0 (lines_keyed form false)
-
-pub returns-in-Some : goal.returns-in-Some
-returns-in-Some c =
-    handed _ c.number_of.type_inv
-    ∙ c.number_of.ensures
-    ∙ count_second _ _ c.in_default.not-One c.line_of.ensures (sym c.in-Some.is ∙ c.line_at.ensures)
-
-pub returns-in-None : goal.returns-in-None
-returns-in-None c =
-    count_second _ _ c.in_default.not-One c.line_of.ensures (sym c.in-None.is ∙ c.line_at.ensures)
+pub returns : goal.returns
+returns c =
+    let another : c.args.form ≡ One → ⊥ =
+    elim c.match-matches.branch [ in-One w ↦ absurd (false≢true (sym c.if-matches.false ∙ w.matches-is)) | in_default w ↦ w.in_default.not-One ] in
+    let said : c.map_or.result ≡ number_from HOURS_LINE c.args.s.now c.line_at.result = search rules in
+    handed _ c.map_or.type_inv ∙ said ∙ count_second _ _ another c.line.ensures c.line_at.ensures

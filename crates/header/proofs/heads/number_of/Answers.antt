@@ -7,5 +7,5 @@ use Rattle.header.proofs.heads.number_of.Goals as goal
 
 pub returns : goal.returns
 returns c =
-    let fields = fields_read c.args.key 1 _ _ _ (is_line_lem c.args.key 1 (let u = c.requires in omega arith) (omega arith)) c.fields_at-fields.ensures in
+    let fields = fields_read c.args.key 1 _ _ _ (is_line_lem c.args.key 1 (let u = c.requires in omega arith) (omega arith)) c.fields_at.ensures in
     held_is _ _ (search rules) (fields.values 0 (omega arith))

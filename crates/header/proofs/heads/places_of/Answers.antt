@@ -1,59 +1,46 @@
 use mathlib.Core.Path.{sym, ◌∙◌, ap}
-use Prim.Native.Nat.{ℕ, ◌≤◌, ◌<◌}
+use Prim.Native.Nat.{◌+◌}
 use native.Mathlib.Omega.{arith}
-use lib.ListN.{length}
+use Rattle.std.specs.Option.{ok_or}
+use Rattle.std.proofs.lemmas.Result.{err_from_is_err_and}
+use Rattle.tariff.specs.declared.Check.TheVariants.{Form}
+use Rattle.text.specs.Text.{Next}
 use Rattle.header.specs.Header.{layout_by}
-use Rattle.header.specs.Places.{is_keyed}
+use Rattle.header.specs.Places.{is_keyed, fault_of}
 use Rattle.header.proofs.HeaderLines.{places_begin, places_next, line_broken, none_broken, all_placed, line_keyed}
 use Rattle.header.proofs.Forms.{lines_few, lines_keyed}
 use Rattle.header.proofs.heads.places_of.Goals as goal
-use Rattle.header.proofs.heads.places_of.Goals.{In-loop-j}
-
--- form 2 has the most lines: a place for each of them, and that behind the last
-abbrev room : ℕ
-room = 13
 
 pub loop-j-init : goal.loop-j-init
-loop-j-init c = places_begin (layout_by c.args.form c.args.judged) _ _ 12
-
-few : (c : In-loop-j) → c.loop-j.j < 12
-few c =
-    omega (arith, c.loop-j-test.true, c.lines_of-lines.ensures, lines_few c.args.form c.args.judged)
+loop-j-init c = places_begin _ _ _ 12
 
 pub line_at-requires : goal.line_at-requires
 line_at-requires c =
-    ap is_keyed c.line_of.ensures ∙ line_keyed (layout_by c.args.form c.args.judged) c.loop-j.j (lines_keyed c.args.form c.args.judged)
+    let l = c.args.layout in
+    ap is_keyed c.line.ensures ∙ line_keyed (layout_by l.form l.judged) c.loop-j.j (lines_keyed l.form l.judged)
 
-pub returns-in_default : goal.returns-in_default
-returns-in_default c =
-    let form = c.args.form in
-    let judged = c.args.judged in
-    record {
-      told =
-          line_broken (layout_by form judged) _ _ room (lines_few form judged) _ _ _ c.loop-j.invariant c.line_of.ensures
-          (omega (arith, c.loop-j-test.true, c.lines_of-lines.ensures)) (sym c.line_at.ensures ∙ c.in_default.is);
-      placed = λ z. absurd (omega arith);
-    }
+pub returns-in_err-at-clause-told : goal.returns-in_err-at-clause-told
+returns-in_err-at-clause-told c =
+    let l = c.args.layout in
+    let none = c.in_err-at.ensures in
+    let exit = err_from_is_err_and c.from_residual.result c.from_residual.ensures.1 in
+    rw (exit.1, exit.2)
+    (ap fault_of (none.value ∙ ap (λ (o : Next). ok_or o (Form (c.loop-j.j + 1))) none.ok_part)
+    ∙ line_broken (layout_by l.form l.judged) _ _ 13 (lines_few l.form l.judged) _ _ c.loop-j.invariant c.line.ensures
+    (omega (arith, c.loop-j-test.true, c.lines-j-end.ensures)) (sym c.line_at.ensures ∙ none.ok_part))
 
 pub loop-j-preserved : goal.loop-j-preserved
 loop-j-preserved c =
-    let form = c.args.form in
-    let judged = c.args.judged in
-    places_next (layout_by form judged) _ _ room (lines_few form judged) _ _ _ c.loop-j.invariant c.line_of.ensures
-    (omega (arith, c.loop-j-test.true, c.lines_of-lines.ensures)) _ (sym c.line_at.ensures ∙ c.in-Some.is)
+    let l = c.args.layout in
+    places_next (layout_by l.form l.judged) _ _ 13 (lines_few l.form l.judged) _ _ c.loop-j.invariant c.line.ensures
+    (omega (arith, c.loop-j-test.true, c.lines-j-end.ensures)) _ (sym c.line_at.ensures ∙ c.in_ok-at.ensures.ok_part)
 
-pub returns : goal.returns
-returns c =
-    let form = c.args.form in
-    let judged = c.args.judged in
-    let all : length (layout_by form judged) ≤ c.loop-j.j = omega (arith, c.loop-j-test.false, c.lines_of-lines.ensures) in
-    record {
-      told = none_broken (layout_by form judged) _ _ room (lines_few form judged) _ _ _ c.loop-j.invariant all;
-      placed = λ z. all_placed (layout_by form judged) _ _ room (lines_few form judged) _ _ _ c.loop-j.invariant all;
-    }
+pub returns-clause-told : goal.returns-clause-told
+returns-clause-told c =
+    let l = c.args.layout in
+    none_broken (layout_by l.form l.judged) _ _ 13 (lines_few l.form l.judged) _ _ c.loop-j.invariant (omega (arith, c.loop-j-test.false, c.lines-j-end.ensures))
 
-pub offset_bounds-at-j : goal.offset_bounds-at-j
-offset_bounds-at-j c = omega (arith, few (goal.at.offset_bounds-at-j c).In-loop-j)
-
-pub bounds-at-j : goal.bounds-at-j
-bounds-at-j c = omega (arith, few (goal.at.bounds-at-j c).In-loop-j)
+pub returns-clause-placed : goal.returns-clause-placed
+returns-clause-placed c =
+    let l = c.args.layout in
+    all_placed (layout_by l.form l.judged) _ _ 13 (lines_few l.form l.judged) _ _ c.loop-j.invariant (omega (arith, c.loop-j-test.false, c.lines-j-end.ensures))

@@ -1,12 +1,7 @@
--- `heads::places_of` reads the lines one after the other. The loop's invariant: j lines are read, up to the place i.
-use Prim.Native.Nat.{◌-◌}
-use lib.ListN.{length}
+-- `heads::places_of` reads the lines one after the other. The loop's invariant: the places of j lines and of what stands behind them are told.
 use Rattle.header.specs.Header.{layout_by}
 use Rattle.header.proofs.HeaderLines.{PlacedTo}
 use Rattle.header.proofs.heads.places_of.Given as goal
 
 abbrev pub invariant-loop-j : goal.invariant-loop-j
-invariant-loop-j l = PlacedTo (layout_by l.form l.judged) l.hours l.s 13 l.at l.i l.j
-
-abbrev pub decreases-loop-j : goal.decreases-loop-j
-decreases-loop-j l = length (layout_by l.form l.judged) - l.j
+invariant-loop-j l = PlacedTo (layout_by l.layout.form l.layout.judged) l.layout.hours l.s 13 l.at l.j
