@@ -30,7 +30,7 @@ fn quarter(en: i64, ae: i64, co: i64, eop: i64, lim: i64) -> Interval {
         eop: Some(Kw(eop)),
         pen: Price(5000),
         lim: Kw(lim),
-        ..records::blank_interval()
+        ..Interval::default()
     }
 }
 
