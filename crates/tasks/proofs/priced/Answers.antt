@@ -1,6 +1,6 @@
--- `Kw::priced` meets its contract: both products fit, and the second is the grains.
+-- `priced` meets its contract: both products fit, and the second is the grains.
 use Rattle.exact.proofs.Bits.{leaf, back, fits, gives, is_mul}
-use Rattle.tariff.proofs.Kw.priced.Goals as goal
+use Rattle.tasks.proofs.priced.Goals as goal
 
 pub overflow_mul-result : goal.overflow_mul-result
 overflow_mul-result c = let p = c.requires in fits tt (is_mul (leaf tt p.0) (leaf tt p.1))
