@@ -12,6 +12,8 @@ use Rattle.tariff.proofs.sums.GrainsAdd.add.Reads as grains_sum
 use Rattle.tariff.proofs.sums.GrainsSub.sub.Reads as grains_difference
 use Rattle.tariff.proofs.sums.SecondsAdd.add.Reads as seconds_sum
 use Rattle.tariff.proofs.sums.CentsAdd.add.Reads as cents_sum
+use Rattle.tariff.proofs.Kw.priced.Reads as priced
+use Rattle.tariff.proofs.Kw.moved.Reads as moved
 
 pub one_number_of : OneReply number_of_lem.Post
 one_number_of κ a r s u v p q = one r s p q
@@ -42,3 +44,9 @@ one_seconds_sum κ a r s u v p q = ap seconds (one r.0 s.0 p q)
 
 pub one_cents_sum : OneReply cents_sum.Post
 one_cents_sum κ a r s u v p q = ap cents (one r.0 s.0 p q)
+
+pub one_priced : OneReply priced.Post
+one_priced κ a r s u v p q = ap grains (one r.0 s.0 p q)
+
+pub one_moved : OneReply moved.Post
+one_moved κ a r s u v p q = ap grains (one r.0 s.0 p q)

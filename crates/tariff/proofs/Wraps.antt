@@ -1,19 +1,24 @@
--- What `+` and `-` of a unit give where the result fits 64 bits: the sum or the difference itself, which wraps nowhere.
+-- What `+`, `-` and the products of the units give where the result fits 64 bits: the number itself, which wraps nowhere.
 use mathlib.Core.Path.{◌≡◌, ◌∙◌}
 use Prim.Native.Nat.{ℕ, ◌+◌, ◌^◌}
 use lib.Dec.{T, ltb}
-use lib.IntN.{ℤ, ◌+ℤ◌}
+use lib.IntN.{ℤ, ◌+ℤ◌, ◌-ℤ◌}
 use mir.Syntax.{w64}
 use mir.Val.{SFits}
 use Rattle.std.specs.Int.{int_wrap}
 use Rattle.std.proofs.lemmas.Int.{int_wrap_fits}
-use Rattle.exact.proofs.Bits.{Is, is_add, fits}
+use Rattle.exact.proofs.Bits.{Is, is_add, is_less, fits}
 
 pub is_itself : {r z : ℤ} → SFits w64 z → r ≡ int_wrap w64 z → r ≡ z
 is_itself {z = z} f e = e ∙ int_wrap_fits w64 z f
 
--- a sum of two whose ranges are known
+-- a sum and a difference of two whose ranges are known
 pub is_sum : {A B : ℕ} {x y a b r : ℤ} → T (ltb (A + B) (2 ^ 63)) → Is A x a → Is B y b → r ≡ int_wrap w64 (x +ℤ y) → Is (A + B) r (a +ℤ b)
 is_sum t f g e =
     let sum = is_add f g in
     record { same = is_itself (fits t sum) e ∙ sum.same; range = sum.range }
+
+pub is_difference : {A B : ℕ} {x y a b r : ℤ} → T (ltb (A + B) (2 ^ 63)) → Is A x a → Is B y b → r ≡ int_wrap w64 (x -ℤ y) → Is (A + B) r (a -ℤ b)
+is_difference t f g e =
+    let difference = is_less f g in
+    record { same = is_itself (fits t difference) e ∙ difference.same; range = difference.range }

@@ -39,20 +39,12 @@ pub fn idle(stop: Result<(), Check>) -> Task
     }
 }
 
-// Kilowatts at a price for some seconds: up to 4,000,000 x 2,000,000 x 900 grains.
-fn priced(k: Kw, p: Price, s: Seconds) -> Grains
-    requires { Within 4000000 k.0 × Within 2000000 p.0 × Within 900 s.0 }
-    ensures { result.0 ≡ grains_of k.0 p.0 s.0 }
-{
-    Grains(k.0 * p.0 * s.0)
-}
-
 // What the withdrawal bus adds: (AEW - DASW) x LBMPW for the interval's seconds.
 fn withdrawn(dasw: Kw, aew: Kw, pout: Price, s: Seconds) -> Grains
     requires { Within 2000000 dasw.0 × Within 2000000 aew.0 × Within 1000000 pout.0 × Within 900 s.0 }
     ensures { result.0 ≡ grains_of (aew.0 -ℤ dasw.0) pout.0 s.0 }
 {
-    priced(aew - dasw, pout, s)
+    (aew - dasw).priced(pout, s)
 }
 
 // An internal controllable line's interval prices the kilowatts between DASI and AEI, on the curve that its real-time schedule chooses, and
