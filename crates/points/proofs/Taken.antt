@@ -3,6 +3,7 @@ use mathlib.Core.Path.{◌≡◌, ◌∙◌, ap}
 use mathlib.Core.Bool.{Bool, cond}
 use mathlib.Core.List.{List, [], ◌∷◌}
 use Prim.Native.Nat.{ℕ, suc, ◌+◌, ◌<◌, ◌≤◌}
+use native.Mathlib.Decide.{dec_lt}
 use native.Mathlib.Omega.{arith}
 use borrow.Author.Tests.{le-leb, lt-leb}
 use lib.IntN.{ℤ, pos}
@@ -11,20 +12,36 @@ use lib.Signed.{le_z}
 use Rattle.std.specs.Prelude.{if◌then◌else◌}
 use Rattle.std.specs.List.{take_while, prefix_len}
 use Rattle.std.proofs.lemmas.List.{length-take-le, get_or-take}
-use Rattle.exact.proofs.Parts.{by_test}
+use Rattle.exact.proofs.Parts.{arithℤ, by_test}
 use Rattle.tariff.specs.declared.Curve.{Curve}
 use Rattle.tariff.specs.declared.Price.{Price}
 use Rattle.tariff.specs.Units.{price}
 use Rattle.tariff.specs.Sheet.{price_of, begin_of}
 use Rattle.tariff.specs.Curve.{known, none}
 use Rattle.tariff.specs.Point.{first_dearer, point_on}
-use Rattle.tariff.proofs.Points.{without_steps, with_steps}
+use Rattle.tariff.proofs.Points.{Taken, without_steps, with_steps}
 use Rattle.points.specs.Standing.{point_found}
 
 abbrev cheap : (pen : ℤ) → Price → Bool
 cheap pen p = le_z p.0 pen
 
 module _ (prices : ℕ → ℤ) (pen : ℤ) where
+  -- the first step that costs more than `pen` is one
+  not_before : {left m k : ℕ} → Taken prices pen 0 left m → Taken prices pen 0 left k → m < k → ⊥
+  not_before {left} {m} {k} p q u =
+      let w = q.up_to in
+      let x = p.dear (omega arith) in
+      let y = q.cheap m (omega arith) u in
+      omega arithℤ
+
+  one_taken : {left m k : ℕ} → Taken prices pen 0 left m → Taken prices pen 0 left k → m ≡ k
+  one_taken {left} {m} {k} p q = go (dec_lt m k) (dec_lt k m)
+    where
+      go : Dec (m < k) → Dec (k < m) → m ≡ k
+      go (yes u) v = absurd (not_before p q u)
+      go (no u) (yes v) = absurd (not_before q p v)
+      go (no u) (no v) = omega arith
+
   taken_from : (j : ℕ) (at : List Price) → ((i k : ℕ) → i ≡ j + k → k < length at → prices i ≡ (get_or at k (price (pos 0))).0)
       → first_dearer prices pen j (length at) ≡ j + length (take_while (cheap pen) at)
   unfolding first_dearer
