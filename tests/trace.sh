@@ -146,6 +146,7 @@ done
 # --- What a library's callers can call: the functions that its root has, opens or brings out, the methods of its public types and traits, and their
 # operators. Each line has the file, the name, `pub` where the page has to name it, and `asks` where it has a `requires` or an operator has a
 # condition, with tabs between. What a private module keeps to itself is inner, and so are the methods of such a type.
+# A private module that is brought out by its name, another name of an inner type and a method of one that a public field shows are not looked for; there are none.
 : >"$work/calls"
 for lib in crates/*/src/lib.rt; do
     find "${lib%/lib.rt}" -name '*.rt' | sort | awk '
@@ -166,7 +167,7 @@ function begins(line) {
     match(line, /fn [A-Za-z0-9_]+/)
     name = substr(line, RSTART + 3, RLENGTH - 3)
     shown = line ~ /^ *pub / ? "pub" : ""
-    asks = ""
+    asks = line ~ / requires[* ]/ ? "asks" : ""
     head = 1
 }
 function ends() {

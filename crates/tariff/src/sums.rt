@@ -1,6 +1,6 @@
 // Sums, differences and products of the units. Kilowatts, prices and grains are types of their own, so none can be added to another, and only
 // a product of kilowatts and a price with seconds makes grains; movement at its price does as well. Any values are taken: a result that does not
-// fit 64 bits wraps, as the machine's does. A caller that wants the number itself proves that it fits, as those of numbers in their ranges do.
+// fit 64 bits wraps, as the machine's does. A caller that wants the number itself proves that it fits; that of numbers in their ranges does.
 #![tactic(auto, using(std::proofs::lemmas::Int::wraps))]
 
 ghost use Rattle.std.specs.Prelude.{◌≡◌, ◌+ℤ◌, ◌-ℤ◌};
