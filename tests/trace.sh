@@ -8,8 +8,10 @@
 # .antt as `name :`, in .rt as a fn, struct, enum or static, in .rs as one of
 # these, a const, mod or type, or an enum's case, in .sh as `name()`.
 # And the page is whole: it names each theorem of the front pages and of every
-# Unique.antt, each must-fail edit and each public function. The last line
-# counts what passed and what failed; the status is 1 if anything failed.
+# Unique.antt, each must-fail edit and each public function. No public function
+# of a library has a `requires`, and no operator of public types a condition:
+# the page says so. The last line counts what passed and what failed; the status
+# is 1 if anything failed.
 . "$(dirname -- "$0")/common.sh"
 
 [ $# -le 1 ] || usage "trace.sh [PAGE]"
@@ -140,13 +142,108 @@ done
 for file in crates/*/must-fail/*.edit; do
     [ -f "$file" ] && printf '%s\t\n' "$file" >>"$work/all"
 done
-# The functions of a crate's root, and of the modules that it makes public.
-for file in crates/*/src/lib.rt; do
-    [ -f "$file" ] || continue
-    for part in "$file" $(sed -n "s|^pub mod \([a-z0-9_]*\);.*|${file%lib.rt}\1.rt|p" "$file"); do
-        sed -n "s|^ *pub \(extern \"C\" \)\{0,1\}fn \([a-z0-9_]*\).*|$part$tab\2|p" "$part" >>"$work/all"
-    done
+
+# --- What a library's callers can call: the functions that its root has, opens or brings out, the methods of its public types and traits, and their
+# operators. Each line has the file, the name, `pub` where the page has to name it, and `asks` where it has a `requires` or an operator has a
+# condition, with tabs between. What a private module keeps to itself is inner, and so are the methods of such a type.
+# A private module that is brought out by its name, another name of an inner type and a method of one that a public field shows are not looked for; there are none.
+: >"$work/calls"
+for lib in crates/*/src/lib.rt; do
+    find "${lib%/lib.rt}" -name '*.rt' | sort | awk '
+# The words of a line.
+function words_of(line, words) { return split(line, words, /[^A-Za-z0-9_]+/) }
+# The name behind the last of these keywords.
+function name_in(line, words, n) {
+    n = words_of(line, words)
+    return words[n]
+}
+function is_inner(line, words, n, i) {
+    n = words_of(line, words)
+    for (i = 1; i <= n; i++) if ((words[i] in inner) && !(words[i] in brought)) return 1
+    return 0
+}
+# A function that can be called begins: what it asks stands before its body.
+function begins(line) {
+    match(line, /fn [A-Za-z0-9_]+/)
+    name = substr(line, RSTART + 3, RLENGTH - 3)
+    shown = line ~ /^ *pub / ? "pub" : ""
+    asks = line ~ / requires[* ]/ ? "asks" : ""
+    head = 1
+}
+function ends() {
+    if (head) print file "\t" name "\t" shown "\t" asks
+    head = 0
+}
+function first_look(line) {
+    # What the root brings out or opens, and what is declared where no caller sees it.
+    if (is_root && line ~ /^pub use /) bringing = 1
+    if (bringing) {
+        n = words_of(line, words)
+        for (i = 1; i <= n; i++) brought[words[i]]
+        if (line ~ /\*/) unclear = 1
+        if (line ~ /;$/) bringing = 0
+    }
+    if (is_root && match(line, /^pub mod [a-z0-9_]+/)) is_open[substr(line, 9, RLENGTH - 8)]
+    if (match(line, /^(pub(\([a-z]+\))? )?(struct|enum|trait|type) [A-Za-z0-9_]+/))
+        if (!(module in is_open) || line !~ /^pub /) inner[name_in(substr(line, 1, RLENGTH))]
+}
+function second_look(line) {
+    if (head) {
+        if (line ~ /^ *requires[* ]/) asks = "asks"
+        if (line ~ /^ *\{$/ || line ~ /;$/ || (line ~ /\{\}?$/ && line !~ /^ *(requires|ensures|ghost)[* ]/)) ends()
+        return
+    }
+    if (line ~ /^}/) within = ""
+    else if (line ~ /^(unsafe )?impl[ <]/) within = is_inner(line) ? "" : line ~ / for / ? "impl for" : "impl"
+    else if (match(line, /^pub (unsafe )?trait [A-Za-z0-9_]+/)) within = (module in is_open) || (name_in(substr(line, 1, RLENGTH)) in brought) ? "trait" : ""
+    else if (match(line, /^pub (const |unsafe |extern "C" )*fn [A-Za-z0-9_]+/)) {
+        if ((module in is_open) || (name_in(substr(line, 1, RLENGTH)) in brought)) begins(line)
+    } else if (within == "impl" && line ~ /^    pub (const |unsafe )*fn /) begins(line)
+    else if ((within == "impl for" || within == "trait") && line ~ /^    (const |unsafe |final )*fn /) begins(line)
+    else if (within == "impl for" && match(line, /^    ghost can_[a-z0-9_]+ =/)) {
+        name = name_in(substr(line, 1, RLENGTH - 2))
+        print file "\t" name "\t\tasks"
+    }
+    if (head && line ~ /[{};]$/) ends()
+}
+function read_all(look, i, line) {
+    for (i = 1; i <= files; i++) {
+        file = names[i]
+        module = file
+        sub(/.*\/src\//, "", module)
+        sub(/\.rt$/, "", module)
+        is_root = module == "lib"
+        within = ""
+        head = 0
+        while ((getline line < file) > 0) if (look == 1) first_look(line); else second_look(line)
+        close(file)
+    }
+}
+# The root is read first, since it says what is open.
+{
+    if ($0 ~ /\/src\/lib\.rt$/) names[1] = $0
+    else names[++others + 1] = $0
+}
+END {
+    files = others + 1
+    is_open["lib"]
+    read_all(1)
+    read_all(2)
+    exit unclear
+}' >>"$work/calls" || fail "$lib brings out more than it names"
 done
+
+# --- None of them asks anything of its caller.
+awk -F "$tab" '$4 == "asks"' "$work/calls" >"$work/asking"
+while IFS=$tab read -r path name rest; do
+    fail "$path: $name asks something of its callers"
+done <"$work/asking"
+passed=$((passed + $(awk -F "$tab" '$4 == ""' "$work/calls" | wc -l)))
+
+# --- The page names each function and method of them.
+awk -F "$tab" '$3 == "pub" { print $1 "\t" $2 }' "$work/calls" >"$work/public"
+[ -s "$work/public" ] || fail "no library has a public function"
+cat "$work/public" >>"$work/all"
 sort -u "$work/all" >"$work/wanted"
 comm -23 "$work/wanted" "$work/refs" >"$work/unnamed"
 while IFS=$tab read -r path name; do

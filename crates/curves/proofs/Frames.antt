@@ -5,6 +5,7 @@ use mathlib.Core.Path.{◌≡◌, refl, sym, ap, ◌∙◌}
 use mathlib.Core.List.{List}
 use mathlib.Core.Logic.{◌↔◌}
 use Prim.Native.Nat.{ℕ}
+use native.Mathlib.Omega.{arith}
 use lib.IntN.{ℤ, pos}
 use lib.ListN.{get_or}
 use Rattle.exact.proofs.Apart.{impossible}
@@ -15,11 +16,12 @@ use Rattle.lines.specs.declared.Fields.{Fields}
 use Rattle.lines.specs.Line.{fields_at, and_then, value_in, line_feed}
 use Rattle.lines.proofs.Lines.{FieldsRead, fields_read, line_is}
 use Rattle.lines.specs.Series.{Series, line_count, broken_line}
+use Rattle.lines.proofs.Series.{series_line}
 use Rattle.records.specs.declared.series.Series as declared
 use Rattle.records.specs.Laws.{LineLaws}
 use Rattle.records.specs.Told.{series_read, series_read_at}
-use Rattle.curves.specs.CurveLine.{line_read_at}
-use Rattle.curves.specs.Frame.{Kind, first_line, interval_at, interval_lines, Framed, broken, read, with_series, framed_at, framed_read}
+use Rattle.curves.specs.CurveLine.{curve_line, curve_said, line_read_at}
+use Rattle.curves.specs.Frame.{Kind, first_line, interval_line, interval_at, interval_lines, Framed, broken, read, with_series, after_line3, after_line2, after_line1, framed_at, framed_read}
 use Rattle.curves.proofs.CurveLines.{not_told, curve_told}
 
 pub never_read : {H : Type 0} {line : ℕ} {h : H} → ◌≡◌ {A = Framed H} (broken line) (read h) → ⊥
@@ -83,6 +85,29 @@ module _ {I H : Type 0} (k : Kind I H) (s : List ℕ) (from : ℕ) where
             let da = curve_told _ _ e2 in
             let rt = curve_told _ _ e3 in
             ap with e ∙ counted (interval_lines k s p3) ∙ rw (e1, da.0, da.1, rt.0, rt.1)
+
+-- ---- lines count from 1
+
+module _ {I H : Type 0} (k : Kind I H) where
+  pub no_line_0 : (s : List ℕ) (from : ℕ) → framed_at k s from ≡ broken 0 → ⊥
+  unfolding framed_at
+  no_line_0 s from = line1 (first_line k s from)
+    where
+      series : (v : ℕ → ℤ) (da rt : Curve) (at : ℕ) (r : Series) → (r ≡ broken_line 0 → ⊥) → with_series k v da rt s at r ≡ broken 0 → ⊥
+      series v da rt at (line_count n) never e = impossible cc
+      series v da rt at (broken_line line) never e = never (ap broken_line (cc))
+
+      line3 : (next : Next) (v : ℕ → ℤ) (da rt : Curve) → after_line3 k next v da rt s ≡ broken 0 → ⊥
+      line3 None v da rt e = let z : ◌≡◌ {A = ℕ} 3 0 = cc in omega arith
+      line3 (Some at) v da rt e = series v da rt at (interval_lines k s at) (series_line (interval_line k) 4 30 s at (omega arith)) e
+
+      line2 : (next : Next) (v : ℕ → ℤ) (da : Curve) → after_line2 k next v da s ≡ broken 0 → ⊥
+      line2 None v da e = let z : ◌≡◌ {A = ℕ} 2 0 = cc in omega arith
+      line2 (Some at) v da e = line3 (curve_line RT s at) v da (curve_said RT s at) e
+
+      line1 : (next : Next) → after_line1 k next s from ≡ broken 0 → ⊥
+      line1 None e = let z : ◌≡◌ {A = ℕ} 1 0 = cc in omega arith
+      line1 (Some at) e = line2 (curve_line DA s at) (value_in k.ahead s from) (curve_said DA s at) e
 
 -- ---- what is given back says what the block is
 

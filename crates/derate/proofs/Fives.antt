@@ -5,10 +5,14 @@ use mathlib.Core.List.{List, [], ◌∷◌}
 use Prim.Native.Nat.{ℕ, zero, suc, ◌<◌, ◌≤◌}
 use native.Mathlib.Omega.{arith}
 use lib.Dec.{eqb}
-use lib.IntN.{ℤ, pos, ◌-ℤ◌}
+use lib.IntN.{ℤ, pos, ◌+ℤ◌, ◌-ℤ◌}
 use lib.ListN.{length, get_or, set}
+use mir.Syntax.{w64}
 use Rattle.std.specs.Prelude.{if◌then◌else◌}
-use Rattle.exact.specs.Whole.{over, Within}
+use Rattle.std.specs.Int.{int_wrap}
+use Rattle.std.proofs.lemmas.Int.{ints}
+use Rattle.exact.specs.Whole.{over, sum_to, Within}
+use Rattle.exact.proofs.Bits.{plain}
 use Rattle.exact.proofs.Range.{within_zero, within_less}
 use Rattle.exact.proofs.Tests.{and_left, and_right}
 use Rattle.tariff.specs.declared.Kw.{Kw}
@@ -17,6 +21,7 @@ use Rattle.tariff.specs.Sheet.{is_power}
 use Rattle.tariff.specs.Derate.{of_five, floor_of, share}
 use Rattle.tariff.proofs.Ranges.{power_within}
 use Rattle.tariff.proofs.Ranks.{five, at_five}
+use Rattle.tariff.proofs.Wraps.{is_sum}
 use Rattle.tariff.proofs.Shares.{floor_bound, floors_left, share_bound}
 use Rattle.derate.specs.declared.cuts.Cut.{Cut}
 use Rattle.derate.specs.Five.{kw_five, cut_five, kw_at, cut_at, Close, SmallFive}
@@ -91,6 +96,18 @@ close_if l e = record { close = λ j u. power_at l e j }
 
 pub gap_small : (d live : List Kw) (j : ℕ) → Close d → Close live → j < 5 → over (kw_at d j -ℤ kw_at live j) ≤ 4000000
 gap_small d live j cd cl u = grind (arith, within_less)
+
+-- ---- the sum of five that are in range wraps nowhere
+
+pub five_added : (l : List Kw) (p q r s : ℤ) → Close l → p ≡ int_wrap w64 (kw_at l 0 +ℤ kw_at l 1) → q ≡ int_wrap w64 (p +ℤ kw_at l 2) → r ≡ int_wrap w64 (q +ℤ kw_at l 3) → s ≡ int_wrap w64 (r +ℤ kw_at l 4) → s ≡ sum_to (kw_at l) 5
+unfolding sum_to
+five_added l p q r s h d e f g =
+    let in_range = λ (j : ℕ) (u : j < 5). plain (h.close j u) in
+    let two = is_sum tt (in_range 0 (omega arith)) (in_range 1 (omega arith)) d in
+    let three = is_sum tt two (in_range 2 (omega arith)) e in
+    let four = is_sum tt three (in_range 3 (omega arith)) f in
+    let all = (is_sum tt four (in_range 4 (omega arith)) g).same in
+    omega (arith, ints)
 
 -- ---- the shares of a reduction that has room
 

@@ -58,6 +58,7 @@ impl Schedules {
         Some(Schedules { kw })
     }
 
+    #[tactic(auto, using(crate::proofs::Fives::five_added))]
     pub fn sum_five(self) -> Kw
         ensures { result.0 ≡ sum_to (kw_at self.kw) 5 }
     {

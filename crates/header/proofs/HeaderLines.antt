@@ -5,12 +5,13 @@ use mathlib.Core.Path.{◌≡◌, refl, sym, ◌∙◌, ap}
 use mathlib.Core.Bool.{Bool, true, false, ◌&&◌, false≢true}
 use mathlib.Core.List.{List, [], ◌∷◌}
 use Prim.Native.Nat.{ℕ, zero, suc, ◌+◌, ◌-◌, ◌≤◌, ◌<◌}
+use native.Mathlib.Decide.{dec_le}
 use native.Mathlib.Numerals.{add-one}
 use native.Mathlib.Nat.{add-zero, add-suc}
 use native.Mathlib.Omega.{arith}
 use borrow.Author.Tests.{ltb-true}
 use lib.IntN.{ℤ}
-use lib.ListN.{get_or, set, replicate, length}
+use lib.ListN.{get_or, set, replicate, length, get_or-eq_default}
 use Rattle.exact.specs.Whole.{up_to}
 use Rattle.exact.proofs.Tests.{and_left, and_right}
 use Rattle.tariff.specs.Reply.{FORM, Verdict, clear, fault, unless, first_of}
@@ -166,6 +167,14 @@ module _ (layout : List Line) (hours : ℕ) (s : List ℕ) where
 
       pub all_placed : Placed layout hours s at
       all_placed k v = place_told k (omega arith)
+
+-- ---- past the closing line, which is the last, there is none but it
+pub close_past : (layout : List Line) (last j : ℕ) → length layout ≡ suc last → line_in layout last ≡ Close → last ≤ j → Close ≡ line_in layout j
+close_past layout last j long close u = go (dec_le (length layout) j)
+  where
+    go : Dec (length layout ≤ j) → Close ≡ line_in layout j
+    go (yes v) = sym (get_or-eq_default layout Close v)
+    go (no v) = let e : last ≡ j = omega arith in sym close ∙ ap (line_in layout) e
 
 -- ---- each line's key is one of the table's
 abbrev pub are_keyed : List Line → Bool

@@ -22,19 +22,22 @@ pub fn digits_at(s: &[u8], at: usize, hours: usize) -> Option<usize>
     Some(next)
 }
 
-// How many digits stand from a place on.
-fn run_of(s: &[u8], at: usize) -> usize
-    ensures { result ≡ length (take_while is_ascii_digit (drop at s.now)) }
+// How many digits a text begins with.
+fn run_of(text: &[u8]) -> usize
+    ensures { result ≡ length (take_while is_ascii_digit text.now) }
 {
-    s.iter().skip(at).take_while(|b| b.is_ascii_digit()).count()
+    text.iter().take_while(|b| b.is_ascii_digit()).count()
 }
 
-// The place behind them.
+// The place behind the digits that stand from a place on.
 #[tactic(auto, using(crate::proofs::Digits::run_behind, crate::proofs::Digits::run_inside))]
 pub fn run_at(s: &[u8], at: usize) -> usize
     ensures { Some result ≡ behind_run s.now at }
 {
-    at + run_of(s, at)
+    match s.get(at..) {
+        Some(rest) => at + run_of(rest),
+        None => at,
+    }
 }
 
 // Whether each hour's digit is one of those that a word admits, digit d by bit d.

@@ -3,19 +3,22 @@ use Rattle.std.specs.Prelude.{None, Some, Result, Ok, Err}
 use mathlib.Core.Path.{◌≡◌, refl, ap, ◌∙◌}
 use mathlib.Core.List.{List}
 use Prim.Native.Nat.{ℕ}
+use native.Mathlib.Omega.{arith}
 use lib.IntN.{ℤ}
 use Rattle.exact.proofs.Apart.{impossible}
 use Rattle.tariff.specs.declared.Curtailed.{Curtailed}
 use Rattle.tariff.specs.declared.ImportHour.{ImportHour}
 use Rattle.tariff.specs.Units.{kw, price}
 use Rattle.tariff.specs.Import.{blank_curtailed}
+use Rattle.text.specs.Text.{Next}
 use Rattle.keys.specs.Keys.{IMPORT_HOUR, CURTAILED}
 use Rattle.lines.specs.Line.{value_in}
 use Rattle.lines.specs.Series.{Series, line_count, broken_line}
+use Rattle.lines.proofs.Series.{series_line}
 use Rattle.records.specs.declared.series.Series as declared
 use Rattle.records.specs.Records.{curtailed_of}
 use Rattle.records.specs.Told.{series_read, series_read_at}
-use Rattle.imports.specs.Import.{import_hour_line, curtailed_at, curtailed_lines, ImportBlock, broken, read, with_curtailed, import_block_at}
+use Rattle.imports.specs.Import.{import_hour_line, curtailed_line, curtailed_at, curtailed_lines, ImportBlock, broken, read, with_curtailed, after_import_line1, import_block_at}
 use Rattle.imports.specs.Read.{import_read_of}
 
 module _ (s : List ℕ) (from : ℕ) where
@@ -40,6 +43,20 @@ module _ (s : List ℕ) (from : ℕ) where
         → with (value_in IMPORT_HOUR s from) r ≡ all
     unfolding import_block_at
     block_series r e = ap (with (value_in IMPORT_HOUR s from)) e ∙ counted (value_in IMPORT_HOUR s from) (curtailed_lines s at) ∙ rw e1
+
+-- ---- lines count from 1
+
+no_line_0 : (s : List ℕ) (from : ℕ) → import_block_at s from ≡ broken 0 → ⊥
+unfolding import_block_at
+no_line_0 s from = line1 (import_hour_line s from)
+  where
+    series : (v : ℕ → ℤ) (at : ℕ) (r : Series) → (r ≡ broken_line 0 → ⊥) → with_curtailed v s at r ≡ broken 0 → ⊥
+    series v at (line_count n) never e = impossible cc
+    series v at (broken_line line) never e = never (ap broken_line (cc))
+
+    line1 : (next : Next) → after_import_line1 next s from ≡ broken 0 → ⊥
+    line1 None e = let z : ◌≡◌ {A = ℕ} 1 0 = cc in omega arith
+    line1 (Some at) e = series (value_in IMPORT_HOUR s from) at (curtailed_lines s at) (series_line curtailed_line 2 30 s at (omega arith)) e
 
 -- ---- what is given back says what the block is
 

@@ -1,6 +1,6 @@
 -- The first two lines of an import: what the code tells of them, that the place behind them is in the text, and the reply under them.
 use Rattle.text.specs.Text.{Next}
-use Rattle.std.specs.Prelude.{Bool, ◌&&◌, if◌then◌else◌, None, Some}
+use Rattle.std.specs.Prelude.{Bool, ◌&&◌, if◌then◌else◌, None, Some, Result, Ok, Err}
 use mathlib.Core.Path.{◌≡◌, refl, sym, ◌∙◌, ap}
 use mathlib.Core.Bool.{true, false}
 use mathlib.Core.List.{List}
@@ -8,17 +8,21 @@ use Prim.Native.Nat.{ℕ, ◌≤◌}
 use lib.IntN.{ℤ, pos}
 use lib.ListN.{length, drop}
 use Rattle.exact.proofs.Apart.{impossible}
-use Rattle.tariff.specs.Reply.{FORM, RANGE, clear, fault, ◌then◌}
+use Rattle.exact.proofs.Unique.{one}
+use Rattle.tariff.specs.declared.Check.{Check}
+use Rattle.tariff.specs.Reply.{FORM, RANGE, Found, clear, fault, ◌then◌}
 use Rattle.tariff.specs.Import.{outside, import_day_fault, ImportReply, refused, import_reply_by}
 use Rattle.tariff.specs.Sheet.{USUAL_DAY, LONGEST_DAY, hours_by, is_count, is_mark, is_name}
 use Rattle.tariff.proofs.Counts as counts
+use Rattle.tariff.proofs.Demands.{one_finding}
 use Rattle.keys.specs.Keys.{IMPORT}
 use Rattle.lines.specs.Line.{is_at, place_in, value_in, line_feed, line_at}
 use Rattle.lines.proofs.Along.{never_at}
 use Rattle.lines.proofs.Ended.{feed_inside}
 use Rattle.imports.specs.declared.head.FirstLine.{FirstLine}
+use Rattle.imports.specs.declared.head.Head.{Head}
 use Rattle.imports.specs.Import.{head_line, head_place, name_in, cts_in, count_in, hours_in, head_in_range, head_fault, reply_under, import_reply}
-use Rattle.imports.specs.Read.{line_by, line_read, HeadSaid}
+use Rattle.imports.specs.Read.{line_by, line_read, HeadSaid, HeadRead}
 
 -- what line 1 says, and where it ends
 record LineSaid (s : List ℕ) (l : FirstLine) : Type 0 where
@@ -111,6 +115,21 @@ module _ (s : List ℕ) where
       go : (a : Next) → line_at IMPORT 3 s 0 ≡ a → hours_by (pos USUAL_DAY) ≡ hours_by (if is_at (line_at IMPORT 3 s 0) then value_in IMPORT s 0 2 else pos USUAL_DAY)
       go (Some next) q = absurd (never_at (let none = no_line e in sym (rw (q, q) at none)))
       go None q = rw q
+
+-- no two different heads are read of one text
+pub one_head : (s : List ℕ) (r t : Result Head Check) → HeadRead s r → HeadRead s t → r ≡ t
+one_head s (Ok r) (Ok t) p q =
+    let name = one r.name t.name p.name q.name in
+    let cts = one r.cts t.cts p.cts q.cts in
+    let hours = one r.hours t.hours p.hours q.hours in
+    let next = one r.next t.next p.next q.next in
+    λ i. Ok (record { name = name i; cts = cts i; hours = hours i; next = next i })
+one_head s (Ok r) (Err d) p q = let never = sym p.sound ∙ q in impossible cc
+one_head s (Err c) (Ok t) p q = let never = sym q.sound ∙ p in impossible cc
+one_head s (Err c) (Err d) p q =
+    let found : ◌≡◌ {A = Found} (Err c) (Err d) = one_finding (Err c) (Err d) _ (sym p) (sym q) in
+    let same : c ≡ d = cc in
+    ap (λ (k : Check). Err k) same
 
 -- ---- the place behind them is in the text
 

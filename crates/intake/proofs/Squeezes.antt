@@ -1,17 +1,20 @@
 -- A text is squeezed byte by byte, and so a text in two parts part by part.
 use mathlib.Core.Path.{◌≡◌, refl, sym}
-use mathlib.Core.Bool.{Bool, and-false}
+use mathlib.Core.Bool.{Bool, true, false, ◌&&◌, and-false}
 use mathlib.Core.List.{List, [], ◌∷◌, ◌++◌, append_assoc, append-nil}
 use Prim.Native.Nat.{ℕ, zero, suc, ◌+◌, ◌≤◌, ◌<◌}
 use native.Mathlib.Omega.{arith}
-use lib.ListN.{length, take, drop, get_or, set, take-append-drop}
+use lib.Dec.{leb}
+use lib.ListN.{length, take, drop, get_or, set, length-append, take-append-drop}
+use Rattle.std.specs.Prelude.{if◌then◌else◌}
 use Rattle.std.proofs.lemmas.List.{drop_more, drop_all}
 use Rattle.std.proofs.lemmas.Grind.{common_steps}
 use lib.Seq.{take-length, drop-set-lt, take-suc-set}
-use Rattle.lines.specs.Squeezed.{squeezed_from}
+use Rattle.text.specs.Number.{is_numeral}
+use Rattle.lines.specs.Squeezed.{RUN, squeezed_from}
 use Rattle.lines.proofs.Squeezed.{squeezed_none, no_feed}
 use Rattle.intake.specs.declared.squeeze.Squeeze.{Squeeze}
-use Rattle.intake.specs.Squeeze.{standing, squeeze_next, squeezed_by, squeeze_after}
+use Rattle.intake.specs.Squeeze.{in_header, standing, squeeze_next, squeezed_by, squeeze_after}
 
 -- ---- byte by byte
 
@@ -53,6 +56,24 @@ split [] c p = (rw (none p), refl)
 split (b ∷ a) c p =
     let h = split a c (squeeze_next p b) in
     (rw (one_byte b (a ++ c) p, one_byte b a p, h.0) (sym (append_assoc (standing p b) _ _)), h.1)
+
+-- ---- no longer than it was
+
+pub few : (p : Squeeze) (b : ℕ) → length (standing p b) ≤ 1
+unfolding standing
+few p b = go (in_header p && (is_numeral b && leb RUN p.run))
+  where
+    go : (out : Bool) → length (if out then [] else b ∷ []) ≤ 1
+    go true = omega arith
+    go false = omega arith
+
+pub no_longer : (s : List ℕ) (p : Squeeze) → length (squeezed_by p s) ≤ length s
+no_longer [] p = rw (none p) (omega arith)
+no_longer (b ∷ t) p =
+    let e = length-append (standing p b) (squeezed_by (squeeze_next p b) t) in
+    let f = few p b in
+    let h = no_longer t (squeeze_next p b) in
+    rw (one_byte b t p) (omega arith)
 
 -- ---- in place: `left` bytes stand at the front of a row, and those from `at` on are still to come
 

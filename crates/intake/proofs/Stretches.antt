@@ -1,14 +1,15 @@
 -- The next bytes of a line: where its line feed stands, and that a stretch taken in at once leaves what its bytes leave one by one.
 use mathlib.Core.Path.{◌≡◌, refl, sym, ◌∙◌, ap}
 use mathlib.Core.Bool.{false}
-use mathlib.Core.List.{List, [], ◌∷◌}
+use mathlib.Core.List.{List, [], ◌∷◌, ◌++◌}
 use Prim.Native.Nat.{ℕ, zero, suc, ◌+◌, ◌-◌, ◌≤◌, min}
+use native.Mathlib.Nat.{add-sub_cancel_left}
 use native.Mathlib.Numerals.{add-one}
 use native.Mathlib.Omega.{arith}
 use borrow.Author.Tests.{eqb-false}
 use lib.Dec.{eqb}
 use lib.ListN.{length, set, take, drop, length-set, length-take}
-use lib.Seq.{sets, length-take-le}
+use lib.Seq.{sets, length-take-le, drop-drop}
 use Rattle.std.specs.Prelude.{if◌then◌else◌, Option, Some, None, unwrap_or}
 use Rattle.std.specs.List.{position_or_len}
 use Rattle.std.proofs.lemmas.Grind.{common_steps}
@@ -78,6 +79,10 @@ all_at_once (suc k) (b ∷ t) store i going enough stored plain =
     let place : sets (set store i.n b) (i.n + 1) (take (suc k) t) ≡ sets (set store i.n b) (suc i.n) (take (suc k) t) = rw (add-one i.n) in
     let last = rw (n, run, place) at more in
     (first.0 ∙ last.0, first.1 ∙ last.1)
+
+-- `last` is what is lent of the store from place n on, once the bytes p are copied over it
+pub copied_in : (store p last : List ℕ) (n : ℕ) → last ≡ p → take n store ++ (last ++ drop (n + length p - n) (drop n store)) ≡ placed store n p
+copied_in store p last n e = rw (e, add-sub_cancel_left n (length p), drop-drop (length p) n store)
 
 -- as the code takes it in: its bytes are p
 module _ (store : List ℕ) (i : Intake) (s : List ℕ) (room m : ℕ) (fits : i.n + room + 2 ≤ length store) (counted : m ≡ stretch_of i room s)

@@ -1,29 +1,41 @@
 -- Keys, fields and lines at a place of a text, step by step as the code reads them.
 use mathlib.Core.Path.{◌≡◌, refl, sym, ap, ap₂, ◌∙◌, fun_ext}
-use mathlib.Core.Bool.{true}
+use mathlib.Core.Bool.{true, and-false}
 use mathlib.Core.List.{List, ◌++◌, append-nil}
 use Prim.Native.Nat.{ℕ, zero, suc, ◌+◌, ◌-◌, ◌≤◌, ◌<◌}
 use native.Mathlib.Decide.{dec_lt}
 use native.Mathlib.Numerals.{add-one}
 use native.Mathlib.Nat.{add-zero, add-suc, sub-zero}
 use native.Mathlib.Omega.{arith}
-use borrow.Author.Tests.{ltb-true, le-leb}
-use lib.Dec.{ltb}
+use borrow.Author.Tests.{ltb-true, le-leb, lt-leb}
+use lib.Dec.{ltb, leb}
 use lib.IntN.{ℤ, pos}
 use lib.ListN.{length, get_or, set, take, drop, replicate}
 use Rattle.std.proofs.lemmas.List.{length-replicate, take-replicate, drop-replicate}
 use Rattle.std.specs.Prelude.{if◌then◌else◌, None, Some}
 use Rattle.exact.specs.Whole.{up_to}
 use Rattle.exact.proofs.Parts.{by_test}
-use Rattle.text.specs.Text.{Next}
+use Rattle.text.specs.Text.{key_at, Next}
 use Rattle.lines.specs.declared.Fields.{Fields}
-use Rattle.keys.specs.Keys.{KEYS}
-use Rattle.lines.specs.Line.{field_at, next_of, value_of, and_then, after_fields, value_in, filled, is_line, fields_at, line_feed, line_at}
+use Rattle.keys.specs.Keys.{KEYS, key_of}
+use Rattle.lines.specs.Line.{value_after, field_at, next_of, value_of, and_then, after_fields, value_in, filled, is_line, no_fields, fields_at, line_feed, line_at}
 use Rattle.lines.proofs.Fill.{filled_at, fill_next, fill_rest}
 
--- ---- what is a line
+-- ---- a field
+pub field_after : (k : ℕ) (s : List ℕ) (at : ℕ) (next : Next) → next ≡ key_at (key_of k) s at → value_after k s next ≡ field_at k s at
+unfolding field_at
+field_after k s at next e = ap (value_after k s) e
+
+-- ---- what is a line, and what is none
 pub is_line_lem : (first count : ℕ) → first + count ≤ KEYS → count ≤ 20 → is_line first count ≡ true
 is_line_lem first count h k = rw (le-leb (first + count) KEYS h, le-leb count 20 k)
+
+module _ (first count : ℕ) where
+  pub too_many : (s : List ℕ) (at : ℕ) → 20 < count → no_fields ≡ fields_at first count s at
+  too_many s at h = rw (lt-leb count 20 h, and-false (leb (first + count) KEYS))
+
+  pub past_table : (s : List ℕ) (at : ℕ) → KEYS - count < first → no_fields ≡ fields_at first count s at
+  past_table s at h = rw (lt-leb (first + count) KEYS (omega arith))
 
 -- ---- the fields of a line, one by one
 module _ (first : ℕ) (s : List ℕ) (at total : ℕ) where
@@ -84,6 +96,20 @@ module _ (first : ℕ) (s : List ℕ) (at total : ℕ) where
           sym (wrong_place total l (sym e)),
           o.read ∙ fill_rest (value_in first s at) (pos 0) n total (total - n) (omega arith) (wrong_value (sym e)) ∙ rw all (no_rest _),
         )
+
+module _ (first : ℕ) (s : List ℕ) (at : ℕ) where
+  -- the whole line
+  fields_are : (count : ℕ) (next : Next) (values : List ℤ) → first + count ≤ KEYS → count ≤ 20 → next ≡ after_fields first count s at
+      → values ≡ filled count 20 (value_in first s at) (pos 0) → record { next = next; values = values } ≡ fields_at first count s at
+  fields_are count next values h k p q = rw (is_line_lem first count h k) (ap₂ fields_of p q)
+    where
+      fields_of : Next → List ℤ → Fields
+      fields_of next values = record { next = next; values = values }
+
+  module _ (values : List ℤ) (i n : ℕ) (o : Reading first s at 20 values i n) where
+    -- all fields are read
+    pub fields_end : (count : ℕ) → first + count ≤ KEYS → count ≤ 20 → n ≡ count → record { next = Some i; values = values } ≡ fields_at first count s at
+    fields_end count h k e = fields_are count (Some i) values h k (rw e at (sym o.place)) (rw e at o.read)
 
 -- the values in front of an array of zeros
 abbrev blank : List ℤ

@@ -1,11 +1,11 @@
--- A text that is read on: no block has ended in front of its first n bytes, or with them.
+-- The first n bytes of a text end with an empty line, or do not.
 use mathlib.Core.Path.{◌≡◌, refl, sym, ap, ◌∙◌}
-use mathlib.Core.Bool.{false, ◌&&◌}
+use mathlib.Core.Bool.{true, false, ◌&&◌}
 use mathlib.Core.List.{List}
 use Prim.Native.Nat.{ℕ, zero, suc, ◌+◌, ◌-◌, ◌<◌, ◌≤◌}
 use native.Mathlib.Decide.{dec_le}
 use native.Mathlib.Omega.{arith}
-use borrow.Author.Tests.{ne_eqb}
+use borrow.Author.Tests.{eq-eqb, ne_eqb}
 use lib.Dec.{eqb}
 use lib.ListN.{length, get_or, take}
 use lib.Seq.{get_or-take}
@@ -13,6 +13,42 @@ use Rattle.exact.proofs.Parts.{by_test}
 use Rattle.text.specs.Text.{byte_at}
 use Rattle.text.proofs.Numbers.{inside_same}
 use Rattle.lines.specs.Line.{ends_empty}
+
+module _ (s : List ℕ) where
+  pub ends_not : (n : ℕ) → (byte_at s (n - 1) ≡ 10 → ⊥) → ends_empty s n ≡ false
+  ends_not zero h = refl
+  ends_not (suc zero) h = ne_eqb (byte_at s 0) 10 h
+  ends_not (suc (suc n)) h =
+      let e : suc (suc n) - 1 ≡ suc n = omega arith in
+      rw (ne_eqb (byte_at s (suc n)) 10 (rw e at h))
+
+  pub ends_alone : (n : ℕ) → n ≡ 1 → byte_at s (n - 1) ≡ 10 → ends_empty s n ≡ true
+  ends_alone n e h = rw e (eq-eqb (byte_at s 0) 10 (rw e at h))
+
+  module _ (n : ℕ) (u : n ≡ 0 → ⊥) (v : n ≡ 1 → ⊥) (h : byte_at s (n - 1) ≡ 10) where
+    pub ends_behind : byte_at s (n - 2) ≡ 10 → ends_empty s n ≡ true
+    ends_behind k = both n u v h k
+      where
+        both : (n : ℕ) → (n ≡ 0 → ⊥) → (n ≡ 1 → ⊥) → byte_at s (n - 1) ≡ 10 → byte_at s (n - 2) ≡ 10 → ends_empty s n ≡ true
+        both zero u v h k = absurd (u refl)
+        both (suc zero) u v h k = absurd (v refl)
+        both (suc (suc n)) u v h k =
+            let e : suc (suc n) - 1 ≡ suc n = omega arith in
+            let f : suc (suc n) - 2 ≡ n = omega arith in
+            rw (eq-eqb (byte_at s (suc n)) 10 (rw e at h), eq-eqb (byte_at s n) 10 (rw f at k))
+
+    pub ends_other : (byte_at s (n - 2) ≡ 10 → ⊥) → ends_empty s n ≡ false
+    ends_other k = last n u v h k
+      where
+        last : (n : ℕ) → (n ≡ 0 → ⊥) → (n ≡ 1 → ⊥) → byte_at s (n - 1) ≡ 10 → (byte_at s (n - 2) ≡ 10 → ⊥) → ends_empty s n ≡ false
+        last zero u v h k = refl
+        last (suc zero) u v h k = absurd (v refl)
+        last (suc (suc n)) u v h k =
+            let e : suc (suc n) - 1 ≡ suc n = omega arith in
+            let f : suc (suc n) - 2 ≡ n = omega arith in
+            rw (eq-eqb (byte_at s (suc n)) 10 (rw e at h), ne_eqb (byte_at s n) 10 (rw f at k))
+
+-- ---- a text that is read on: no block has ended in front of its first n bytes, or with them
 
 -- no empty line ends with the byte behind one that is no line feed
 ends_behind_other : (s : List ℕ) (n : ℕ) → 0 < n → (byte_at s (n - 1) ≡ 10 → ⊥) → ends_empty s (n + 1) ≡ false

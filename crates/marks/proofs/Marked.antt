@@ -6,7 +6,7 @@ use native.Mathlib.Nat.{mod-lt, div-eq_of_lt, mul-mod_left, zero-lt-suc, lt_of_l
 use native.Mathlib.Decide.{dec_lt}
 use native.Mathlib.Omega.{arith}
 use lib.Dec.{eqb}
-use lib.Bits.{bit_or, or_shr, or_mod}
+use lib.Bits.{bit_and, bit_or, or_shr, or_mod, and_mask}
 use lib.Pow.{pow_pos, pow_mono, shl-shr, shr-shr, field, mod-mod-pow}
 use Rattle.tariff.specs.Eligible.{marked}
 
@@ -56,6 +56,10 @@ cut_inside a n h e = go (dec_lt h n)
     go : Dec (h < n) → h < n
     go (yes u) = u
     go (no u) = absurd (false≢true (sym (cut_past a n h (omega arith)) ∙ e))
+
+-- the test of a bit in the code
+pub bit_test : (a h : ℕ) → eqb (bit_and (a / 2 ^ h) 1) 1 ≡ marked a h
+bit_test a h = ap (λ (x : ℕ). eqb x 1) (and_mask (a / 2 ^ h) 1)
 
 -- ---- shifted by k, to earlier hours and to later ones
 

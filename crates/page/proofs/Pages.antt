@@ -1,5 +1,5 @@
--- Bytes into a lent page: text after text, a page that is full, and nothing.
-use mathlib.Core.Path.{◌≡◌, refl, sym, ◌∙◌, ap}
+-- Bytes into a lent page: nothing, one byte, text after text, and a page that is full.
+use mathlib.Core.Path.{◌≡◌, refl, sym, ◌∙◌, ap, subst}
 use mathlib.Core.List.{List, [], ◌∷◌, ◌++◌, append_assoc}
 use Prim.Native.Nat.{ℕ, suc, ◌+◌, ◌-◌, ◌≤◌, ◌<◌, min}
 use native.Mathlib.Nat.{add-zero}
@@ -12,6 +12,7 @@ use lib.Seq.{sets, set_out, length-sets, length-take-le, take_all}
 use Rattle.std.proofs.lemmas.List.{drop-drop}
 use Rattle.std.proofs.lemmas.List.Edits.{sets-eq}
 use Rattle.exact.proofs.Parts.{by_test}
+use Rattle.io.specs.Counts.{IsPrefixLen}
 use Rattle.page.specs.declared.Page.{Page}
 use Rattle.page.specs.Page.{written, place_behind, Put, wrote}
 
@@ -48,6 +49,59 @@ stored_then l xs ys at =
     (λ u.
     let h = leb-false _ _ u in
     stored_past ys (sets l at xs) _ (omega arith) ∙ sym (stored_append xs ys l at ∙ stored_past ys (sets l at xs) _ (omega arith)))
+
+-- ---- what a call leaves of the page
+
+pub put_none : (page : List ℕ) (at : ℕ) → Put page at [] page at
+put_none page at = record { bytes = refl; place = omega arith }
+
+-- where the page is full nothing more is written
+pub put_full : (page : List ℕ) (at : ℕ) (text : List ℕ) → length page ≤ at → Put page at text page at
+put_full page at text h = record { bytes = sym (stored_past text page at h); place = omega arith }
+
+pub put_one : (page : List ℕ) (at b : ℕ) → at < length page → Put page at (b ∷ []) (set page at b) (at + 1)
+put_one page at b h = record { bytes = refl; place = omega arith }
+
+module _ {page after : List ℕ} {at next : ℕ} {xs : List ℕ} (p : Put page at xs after next) where
+  pub put_length : length after ≡ length page
+  put_length = ap length p.bytes ∙ length-sets page at xs
+
+  pub put_then : {last : List ℕ} {end : ℕ} {ys : List ℕ} → Put after next ys last end → Put page at (xs ++ ys) last end
+  put_then {last} {end} {ys} q =
+      record {
+        bytes = by_test (leb (at + length xs) (length page)) (λ _. last ≡ sets page at (xs ++ ys)) (λ e. fits (leb-true _ _ e)) (λ e. full (leb-false _ _ e));
+        place =
+            let e = p.place in
+            let f = q.place in
+            let n = put_length in
+            let a = length-append xs ys in
+            omega arith;
+      }
+    where
+      fits : at + length xs ≤ length page → last ≡ sets page at (xs ++ ys)
+      fits h =
+          let e : next ≡ at + length xs = let z = p.place in omega arith in
+          q.bytes ∙ ap (λ (r : List ℕ). sets r next ys) p.bytes ∙ ap (λ (k : ℕ). sets (sets page at xs) k ys) e ∙ sym (stored_append xs ys page at)
+
+      full : length page < at + length xs → last ≡ sets page at (xs ++ ys)
+      full h =
+          let n = put_length in
+          let m = length-sets page at xs in
+          q.bytes
+          ∙ stored_past ys after next (let z = p.place in omega arith)
+          ∙ p.bytes
+          ∙ sym (stored_append xs ys page at ∙ stored_past ys (sets page at xs) (at + length xs) (omega arith))
+
+-- from the page's beginning on: so many of its bytes can be lent on
+pub put_counts : {page after : List ℕ} {next : ℕ} {text : List ℕ} → Put page 0 text after next → IsPrefixLen next after
+put_counts {page} {after} {next} {text} p =
+    let e = p.place in
+    let n = put_length p in
+    let within : next ≤ length after = omega arith in
+    (within, sym (length-take-le next after within))
+
+pub put_as : {page after : List ℕ} {at next : ℕ} {xs ys : List ℕ} → xs ≡ ys → Put page at xs after next → Put page at ys after next
+put_as {page} {after} {at} {next} e p = subst (λ (t : List ℕ). Put page at t after next) e p
 
 -- ---- the code's page
 

@@ -19,11 +19,20 @@ pub enum Standing {
     At(Kw),
 }
 
-// How many steps are taken: each costs no more than `pen`, with every step before it, so that none is taken behind a dear one.
+// How many steps are taken: each costs no more than `pen`, with every step before it. The scan goes over all of them and keeps in `before` whether
+// every step so far is taken, since none is taken behind a dear one.
 fn steps_taken(at: &[Price], pen: Price) -> usize
     ensures { result ≡ length (take_while (λ p. le_z p.0 pen.0) at.now) }
 {
-    at.iter().take_while(|p| **p <= pen).count()
+    let mut taken = 0;
+    let mut before = true;
+    for (k, p) in at.iter().enumerate() {
+        before = before & (*p <= pen);
+        if before {
+            taken = k + 1;
+        }
+    }
+    taken
 }
 
 // The operating point that a real-time curve has at the price `pen`: the end of the last step that is taken, and the curve's start where none is.

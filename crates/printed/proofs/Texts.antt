@@ -1,13 +1,16 @@
--- The texts of the programs: what the code's answers make of them, and that days that are settled alike are printed alike.
+-- The texts of the programs: what the calls write from the page's beginning on, what the code's answers make of them, and that
+-- days that are settled alike are printed alike.
 use mathlib.Core.Path.{◌≡◌, refl, sym, ◌∙◌, ap}
 use mathlib.Core.Bool.{false}
 use mathlib.Core.List.{List, ◌++◌}
-use Prim.Native.Nat.{ℕ}
+use Prim.Native.Nat.{ℕ, min}
+use native.Mathlib.Omega.{arith}
 use lib.IntN.{ℤ}
 use lib.ListN.{length, take, drop}
 use lib.Seq.{take-append_seam, take_at}
 use Rattle.exact.specs.Whole.{up_to}
 use Rattle.exact.proofs.Sums.{up_length, up_same}
+use Rattle.io.specs.Counts.{IsPrefixLen}
 use Rattle.tariff.specs.declared.Hour.{Hour}
 use Rattle.tariff.specs.declared.Expected.TheVariants.{Any}
 use Rattle.tariff.specs.Reply.{Reply, paid, refused, Verdict, clear, fault}
@@ -19,8 +22,15 @@ use Rattle.tariff.specs.Total.{Sum}
 use Rattle.ledger.specs.Day.{Front, day_reply, day_replies, day_total}
 use Rattle.ledger.specs.Demand.{SettledAlike}
 use Rattle.ledger.specs.Walk.{held_replies}
+use Rattle.page.specs.Page.{written, Put}
 use Rattle.answers.specs.Answers.{answer_text, day_lines}
 use Rattle.printed.specs.Printed.{contributions_of, hour_text, day_page}
+use Rattle.page.proofs.Pages.{put_counts}
+
+pub put_first : {page after : List ℕ} {next : ℕ} {text : List ℕ} → Put page 0 text after next
+    → (after ≡ written page 0 text) × ((next ≡ min (length text) (length page)) × IsPrefixLen next after)
+put_first {page} {after} {next} {text} p =
+    let e = p.place in (p.bytes, (omega arith, put_counts p))
 
 -- ---- `hour`
 
@@ -47,6 +57,12 @@ hour_text_lem s row long e f g h =
     rw (e, f, g, h) (front (block_of s) row ∙ ap (λ (room : ℕ). answer_text (hour_said (block_of s)) (contributions_of (block_of s)) (reply_to (block_of s) false Any room)) long)
 
 -- ---- `day` and `line`
+
+pub day_page_lem : (ending : ℕ → List ℕ) (f : Front) {header : ℕ} {v : Verdict} {replies : List Reply} {sum : Sum}
+    → header ≡ f.header → v ≡ f.fault → replies ≡ day_replies f → sum ≡ day_total f
+    → day_lines (ending header) v replies sum ≡ day_page ending f
+unfolding day_page
+day_page_lem ending f which e h g = rw (which, e, h, g)
 
 -- of the answers that are held, those of the day's hours
 pub hours_held : (f : Front) {count : ℕ} {held : List Reply} → count ≡ f.hours → held ≡ held_replies f → take count held ≡ day_replies f

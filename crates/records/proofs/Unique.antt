@@ -1,11 +1,13 @@
 -- No two different replies satisfy the contract of a public function, and no two different values are a record's default.
 use mathlib.Core.Path.{◌≡◌}
 use borrow.Author.Rules.{rules}
+use denote.RattleType.{RattleType}
 use Rattle.tariff.specs.Hour.{blank}
 use Rattle.tariff.specs.Import.{blank_curtailed}
 use Rattle.tariff.specs.Controllable.{blank_icl}
 use Rattle.exact.proofs.Unique.{one, OneReply}
 use Rattle.records.proofs.ahead_of.Reads as ahead_of_lem
+use Rattle.records.proofs.series.series_at.Reads as series_at
 use Rattle.records.proofs.intervals.IntervalIntervalLine.of.Reads as interval_of
 use Rattle.tariff.proofs.IntervalDefault.default.Reads as blank_interval
 use Rattle.records.proofs.intervals.CurtailedIntervalLine.of.Reads as curtailed_of
@@ -15,6 +17,9 @@ use Rattle.tariff.proofs.IclIntervalDefault.default.Reads as blank_icl
 
 pub one_ahead_of : OneReply ahead_of_lem.Post
 one_ahead_of κ a r s u v p q = one r s p q
+
+pub one_series_at : (T : RattleType) (L : _) (C : _) (line : _) (d : _) (clone : _) (e : _) (default : _) (f : _) → OneReply (series_at.Post T L C line d clone e default f)
+one_series_at T L C line d clone e default f κ a r s u v p q = one r s p q
 
 pub one_interval_of : OneReply interval_of.Post
 one_interval_of κ a r s u v p q = one r s p q

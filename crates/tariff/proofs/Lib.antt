@@ -10,6 +10,7 @@ pub mod Given
 pub mod Numbers
 pub mod Finds
 pub mod Ranges
+pub mod Wraps
 pub mod Curves
 pub mod Scan
 pub mod Ranks

@@ -2,8 +2,10 @@ use mathlib.Core.Path.{◌≡◌, ◌∙◌}
 use Prim.Native.Nat.{◌*◌, ◌≤◌}
 use native.Mathlib.Omega.{arith}
 use borrow.Author.Rules.{rules}
+use Rattle.exact.proofs.Bits.{plain}
 use Rattle.exact.proofs.Calls.{handed}
-use Rattle.exact.proofs.Range.{within_more, within_add, within_fits}
+use Rattle.exact.proofs.Range.{within_more}
+use Rattle.tariff.proofs.Wraps.{is_sum}
 use Rattle.lines.proofs.Pieces.{piece_behind}
 use Rattle.imports.proofs.Added.{none_added, here_within, one_added, one_refused, all_surplus, all_paid}
 use Rattle.imports.proofs.days.settle_blocks.Goals as goal
@@ -16,18 +18,15 @@ returns-in_default c =
     let e = rw (handed c.args.head.cts (search rules)) at c.settle_block-answer.ensures in
     c.handed_on.ensures ∙ one_refused _ _ _ _ _ _ _ c.loop-k.invariant _ e _ _ c.loop-k-test.true c.in_default.is
 
-pub add-sum-requires : goal.add-sum-requires
-add-sum-requires c =
-    let L = c.loop-k in
-    let e = rw (handed c.args.head.cts (search rules)) at c.settle_block-answer.ensures in
-    let fits : 108000000000000000 * L.k ≤ 4000000000000000000 = omega arith in
-    within_fits tt (within_add (within_more fits L.invariant.within) (here_within _ _ _ _ _ _ _ L.invariant _ e _ c.in-Ok.is))
-
 pub loop-k-preserved : goal.loop-k-preserved
 loop-k-preserved c =
+    let L = c.loop-k in
     let e = rw (handed c.args.head.cts (search rules)) at c.settle_block-answer.ensures in
+    let few : 108000000000000000 * L.k ≤ 4000000000000000000 = omega arith in
+    let here = here_within _ _ _ _ _ _ _ L.invariant _ e _ c.in-Ok.is in
+    let sum = is_sum tt (plain (within_more few L.invariant.within)) (plain here) c.add-sum.ensures in
     let next = piece_behind _ _ _ c.piece_after-i.ensures in
-    rw c.add-sum.ensures (one_added _ _ _ _ _ _ _ c.loop-k.invariant _ e _ c.in-Ok.is _ next.0 next.1)
+    rw sum.same (one_added _ _ _ _ _ _ _ L.invariant _ e _ c.in-Ok.is _ next.0 next.1)
 
 -- after the last block
 pub returns-then-i-s : goal.returns-then-i-s
